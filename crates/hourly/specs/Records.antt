@@ -6,7 +6,7 @@
 --   record-plain h     figures laid down as plain numbers
 use Prim.Native.Nat.{ℕ, _+_, _*_}
 use lib.Dec.{eqb}
-use lib.IntN.{ℤ, pos, natAbs, _+ℤ_, _*ℤ_}
+use lib.IntN.{ℤ, pos, negsuc, natAbs, _+ℤ_, _*ℤ_}
 use lib.Signed.{ltZ}
 use mathlib.Core.Bool.{Bool, true, false, _&&_, cond}
 use Rattle.std.specs.declared.option.Option.{Option}
@@ -59,3 +59,18 @@ deliveries-plain d = record { kwh = d .kwh; total = d .total; delivered = isSome
 
 abbrev pub record-plain : HourFigures → PlainRecord
 record-plain h = record { upward = deliveries-plain (h .upward); downward = deliveries-plain (h .downward) }
+
+-- the extreme price after a delivery at a price: the highest upward (true), the lowest downward
+abbrev pub extreme-of : Bool → Option ℤ → ℤ → ℤ
+extreme-of up None price = price
+extreme-of true (Some extreme) price = cond (ltZ extreme price) price extreme
+extreme-of false (Some extreme) price = cond (ltZ price extreme) price extreme
+
+-- a direction after a delivery of a magnitude of kWh
+abbrev pub with-delivery : Bool → Deliveries → ℕ → ℤ → Deliveries
+with-delivery up d kwh price = record { kwh = d .kwh + kwh; total = d .total +ℤ pos kwh *ℤ price; extreme = Some (extreme-of up (d .extreme) price) }
+
+-- an hour after a delivery, upward if its kWh are positive
+abbrev pub delivered : HourFigures → ℤ → ℤ → HourFigures
+delivered h (pos kwh) price = record { upward = with-delivery true (h .upward) kwh price; downward = h .downward }
+delivered h (negsuc kwh) price = record { upward = h .upward; downward = with-delivery false (h .downward) (kwh + 1) price }

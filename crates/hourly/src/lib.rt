@@ -31,14 +31,21 @@ fn lies_within(limit: u64, z: i64) -> bool
 fn reading_sound(p: &PlainCell) -> bool
     ensures { λ r. ⌜ r ≡ within (cond (now (p .entry) .metered) 499999 0) (now (p .entry) .reading) ⌝ }
 {
-    if p.metered { lies_within(499_999, p.reading) } else { lies_within(0, p.reading) }
+    if p.metered {
+        lies_within(499_999, p.reading)
+    } else {
+        lies_within(0, p.reading)
+    }
 }
 
 // Whether plain numbers are those of some cell.
 fn cell_sound(p: &PlainCell) -> bool
     ensures { λ r. ⌜ r ≡ sound (now (p .entry)) ⌝ }
 {
-    if !lies_within(499_999, p.position) || !lies_within(999_998, p.regulating) || !lies_within(99_998_800_002, p.tenths) {
+    if !lies_within(499_999, p.position)
+        || !lies_within(999_998, p.regulating)
+        || !lies_within(99_998_800_002, p.tenths)
+    {
         return false;
     }
     reading_sound(p) && lies_within(630_000_000_000, p.last)
@@ -51,10 +58,22 @@ impl Cell {
         ensures back { λ r. ⌜ (sound (now (p .entry)) ≡ true → plain (figures r) ≡ now (p .entry)) ⌝ }
     {
         if !cell_sound(p) {
-            return Cell { position: 0, regulating: 0, tenths: 0, reading: None, last: 0 };
+            return Cell {
+                position: 0,
+                regulating: 0,
+                tenths: 0,
+                reading: None,
+                last: 0,
+            };
         }
         let reading = if p.metered { Some(p.reading) } else { None };
-        Cell { position: p.position, regulating: p.regulating, tenths: p.tenths, reading, last: p.last }
+        Cell {
+            position: p.position,
+            regulating: p.regulating,
+            tenths: p.tenths,
+            reading,
+            last: p.last,
+        }
     }
 
     // The plain numbers of a cell.
@@ -63,8 +82,22 @@ impl Cell {
         ensures back { λ r. ⌜ read r ≡ figures (now (self .entry)) ⌝ }
     {
         match self.reading {
-            Some(z) => PlainCell { position: self.position, regulating: self.regulating, tenths: self.tenths, metered: true, reading: z, last: self.last },
-            None => PlainCell { position: self.position, regulating: self.regulating, tenths: self.tenths, metered: false, reading: 0, last: self.last },
+            Some(z) => PlainCell {
+                position: self.position,
+                regulating: self.regulating,
+                tenths: self.tenths,
+                metered: true,
+                reading: z,
+                last: self.last,
+            },
+            None => PlainCell {
+                position: self.position,
+                regulating: self.regulating,
+                tenths: self.tenths,
+                metered: false,
+                reading: 0,
+                last: self.last,
+            },
         }
     }
 }
@@ -75,7 +108,11 @@ fn average_sound(upward: bool, kwh: u64, total: i64, extreme: i64) -> bool
     ensures { λ r. ⌜ r ≡ not-beyond upward total (pos kwh *ℤ extreme) ⌝ }
 {
     match units::tenths_at(kwh as i64, extreme) {
-        Some(bound) => if upward { total <= bound } else { bound <= total },
+        Some(bound) => if upward {
+            total <= bound
+        } else {
+            bound <= total
+        },
         None => unreachable(),
     }
 }
@@ -106,7 +143,11 @@ fn given_deliveries(p: &PlainDeliveries) -> Deliveries
     ensures { λ r. ⌜ r ≡ deliveries-given (now (p .entry)) ⌝ }
 {
     let extreme = if p.delivered { Some(p.extreme) } else { None };
-    Deliveries { kwh: p.kwh, total: p.total, extreme }
+    Deliveries {
+        kwh: p.kwh,
+        total: p.total,
+        extreme,
+    }
 }
 
 // The plain numbers of deliveries that are within the bounds of their direction.
@@ -117,8 +158,18 @@ fn plain_deliveries(upward: bool, d: &Deliveries) -> PlainDeliveries
     ensures back { λ r. ⌜ deliveries-given r ≡ now (d .entry) ⌝ }
 {
     match d.extreme {
-        Some(price) => PlainDeliveries { kwh: d.kwh, total: d.total, delivered: true, extreme: price },
-        None => PlainDeliveries { kwh: d.kwh, total: d.total, delivered: false, extreme: 0 },
+        Some(price) => PlainDeliveries {
+            kwh: d.kwh,
+            total: d.total,
+            delivered: true,
+            extreme: price,
+        },
+        None => PlainDeliveries {
+            kwh: d.kwh,
+            total: d.total,
+            delivered: false,
+            extreme: 0,
+        },
     }
 }
 
@@ -129,10 +180,20 @@ impl HourRecord {
         ensures back { λ r. ⌜ (record-sound (now (p .entry)) ≡ true → record-plain (record-figures r) ≡ now (p .entry)) ⌝ }
     {
         if !direction_sound(true, &p.upward) || !direction_sound(false, &p.downward) {
-            let none = Deliveries { kwh: 0, total: 0, extreme: None };
-            return HourRecord { upward: none, downward: none };
+            let none = Deliveries {
+                kwh: 0,
+                total: 0,
+                extreme: None,
+            };
+            return HourRecord {
+                upward: none,
+                downward: none,
+            };
         }
-        HourRecord { upward: given_deliveries(&p.upward), downward: given_deliveries(&p.downward) }
+        HourRecord {
+            upward: given_deliveries(&p.upward),
+            downward: given_deliveries(&p.downward),
+        }
     }
 
     // The plain numbers of a record.
@@ -140,6 +201,9 @@ impl HourRecord {
         ensures value { λ r. ⌜ r ≡ record-plain (record-figures (now (self .entry))) ⌝ }
         ensures back { λ r. ⌜ record-read r ≡ record-figures (now (self .entry)) ⌝ }
     {
-        PlainRecord { upward: plain_deliveries(true, &self.upward), downward: plain_deliveries(false, &self.downward) }
+        PlainRecord {
+            upward: plain_deliveries(true, &self.upward),
+            downward: plain_deliveries(false, &self.downward),
+        }
     }
 }
