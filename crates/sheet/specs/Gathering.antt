@@ -1,7 +1,7 @@
 -- Gathering a sheet from the cells of an hour. Assumes nothing.
 use Prim.Native.Nat.{ℕ, _+_, _*_}
 use lib.Dec.{leb}
-use lib.IntN.{ℤ, pos}
+use lib.IntN.{ℤ, pos, natAbs}
 use lib.ListN.{length, take}
 use lib.Signed.{leZ}
 use mathlib.Core.Bool.{Bool, cond, true, false, _&&_}
@@ -40,3 +40,19 @@ missing-reading hour (Some party) = Some (Reading hour party)
 -- an hour of a day
 abbrev pub known-hour : ℤ → Bool
 known-hour hour = leZ (pos 1) hour && leZ hour (pos 24)
+
+-- the refusal at gathering, if any: 1 to 20 parties, an hour of 1 to 24, and no reading missing
+abbrev pub gather-refusal : ℤ → List CellFigures → Option SheetRefusal
+gather-refusal hour cells = cond (leb 1 (length cells) && leb (length cells) 20) (cond (known-hour hour) (missing-reading (natAbs hour) (first-missing 1 cells)) (Some (Hour hour))) (Some Parties)
+
+-- what an evaluation reads of a cell with a reading
+abbrev pub row-of : CellFigures → Row
+row-of c = record { position = c .position; regulating = c .regulating; tenths = c .tenths; reading = valueOr (c .reading) (pos 0) }
+
+-- the rows of a sheet: those of its cells, or none where a refusal was met
+abbrev pub rows-gathered : ℤ → List CellFigures → List Row
+rows-gathered hour cells = cond (isSome (gather-refusal hour cells)) [] (map row-of cells)
+
+-- what a gathered sheet knows of its hour
+abbrev pub facts : Gathered → HourFacts
+facts g = record { rows = take (g .count) (g .rows); deliveries = record-figures (g .record) }
