@@ -1,90 +1,58 @@
 // One hour, evaluated (docs/RULES.md, "One hour, evaluated"): a sheet is gathered, then priced, then balanced, and each step uses up the sheet before it.
 ghost use mathlib.Core.List.{map};
 ghost use mathlib.Core.Path.{_≡_};
-ghost use Prim.Native.Nat.{_≤_};
-ghost use lib.ListN.{length, take};
-ghost use Rattle.hourly.specs.Cells.{read};
-ghost use Rattle.sheet.specs.Bounds.{Row-within, Rows-within};
-ghost use Rattle.sheet.specs.Gathering.{first-missing, gather-refusal, row-of, told};
+ghost use Prim.Native.Nat.{ℕ, _*_, _≤_};
+ghost use lib.IntN.{ℤ, natAbs};
+ghost use lib.ListN.{length};
+ghost use Rattle.units.specs.Sums.{page, sumZ};
+ghost use Rattle.sheet.specs.Bounds.{Row-within, Rows-within, Within};
+ghost use Rattle.sheet.specs.declared.row.Row.{Row};
 
+pub mod gather;
 pub mod gathered;
+pub mod price;
+pub mod priced;
 pub mod row;
 
-use hourly::cell::Cell;
-use hourly::plain::PlainCell;
 use row::Row;
-use row::SheetRefusal;
 
-impl SheetRefusal {
-    pub fn number(&self) -> u8
-        ensures { λ r. ⌜ r ≡ told (now (self .entry)) .number ⌝ }
-    {
-        match self {
-            SheetRefusal::Parties => 11,
-            SheetRefusal::Hour { hour: _ } => 3,
-            SheetRefusal::Reading { hour: _, party: _ } => 10,
-        }
-    }
+// A figure that every row has, and the limit that it never passes.
+pub trait Figure {
+    ghost figure: { Self → Row → ℤ };
 
-    pub fn place(&self) -> i64
-        ensures { λ r. ⌜ r ≡ told (now (self .entry)) .place ⌝ }
-    {
-        match self {
-            SheetRefusal::Parties => 0,
-            SheetRefusal::Hour { hour } => *hour,
-            SheetRefusal::Reading { hour, party } => i64::from(*hour) * 100 + i64::from(*party),
-        }
-    }
+    ghost limit: { Self → ℕ };
+
+    law limited: { (s : Self) (r : Row) → Row-within r → natAbs (figure s r) ≤ limit s };
+
+    fn of(&self, row: &Row) -> i64
+        requires { ⌜ Row-within (now row) ⌝ }
+        ensures { λ r. ⌜ r ≡ figure (now (self .entry)) (now (row .entry)) ⌝ };
 }
 
-// What an evaluation reads of a cell.
-fn row_at(p: &PlainCell) -> Row
-    ensures value { λ r. ⌜ r ≡ row-of (read (now (p .entry))) ⌝ }
-    ensures within { λ r. ⌜ Row-within r ⌝ }
+// A column of a sheet: a figure of each row on a page of 20 places, 0 past the last row.
+fn column<F: Figure>(figure: &F, rows: &[Row]) -> [i64; 20]
+    requires few { ⌜ length (now rows) ≤ 20 ⌝ }
+    requires within { ⌜ Rows-within (now rows) ⌝ }
+    ensures value { λ r. ⌜ r ≡ page (map (F·Figure .figure (now (figure .entry))) (now (rows .entry))) ⌝ }
+    ensures bound { λ r. ⌜ Within (F·Figure .limit (now (figure .entry))) r ⌝ }
 {
-    let cell = Cell::from_plain(p);
-    let reading = cell.reading.unwrap_or(0);
-    Row { position: cell.position, regulating: cell.regulating, tenths: cell.tenths, reading }
+    let mut figures = [0; 20];
+    for (i, row) in rows.iter().enumerate() {
+        figures[i] = figure.of(row);
+    }
+    figures
 }
 
-// The rows of the cells, and rows of zeros past them.
-fn rows_of(cells: &[PlainCell]) -> [Row; 20]
-    requires { ⌜ length (now cells) ≤ 20 ⌝ }
-    ensures value { λ r. ⌜ take (length (now (cells .entry))) r ≡ map row-of (map read (now (cells .entry))) ⌝ }
-    ensures within { λ r. ⌜ Rows-within r ⌝ }
+// The sum of a page.
+fn sum(xs: &[i64; 20], limit: u64) -> i64
+    requires within { ⌜ Within limit (now xs) ⌝ }
+    requires small { ⌜ limit ≤ 30000000000 ⌝ }
+    ensures value { λ r. ⌜ r ≡ sumZ (now (xs .entry)) ⌝ }
+    ensures bound { λ r. ⌜ natAbs r ≤ 20 * limit ⌝ }
 {
-    let mut rows = [Row { position: 0, regulating: 0, tenths: 0, reading: 0 }; 20];
-    for (i, cell) in cells.iter().enumerate() {
-        rows[i] = row_at(cell);
+    let mut sum = 0;
+    for x in xs {
+        sum += *x;
     }
-    rows
-}
-
-// The first party whose reading is missing.
-fn missing_party(cells: &[PlainCell]) -> Option<u8>
-    requires { ⌜ length (now cells) ≤ 20 ⌝ }
-    ensures { λ r. ⌜ r ≡ first-missing 1 (map read (now (cells .entry))) ⌝ }
-{
-    for (i, cell) in cells.iter().enumerate() {
-        if Cell::from_plain(cell).reading.is_none() {
-            return Some(i as u8 + 1);
-        }
-    }
-    None
-}
-
-// The refusal that gathering meets, if any.
-fn refusal_at(hour: i64, cells: &[PlainCell]) -> Option<SheetRefusal>
-    ensures { λ r. ⌜ r ≡ gather-refusal hour (map read (now (cells .entry))) ⌝ }
-{
-    if cells.is_empty() || cells.len() > 20 {
-        return Some(SheetRefusal::Parties);
-    }
-    if hour < 1 || hour > 24 {
-        return Some(SheetRefusal::Hour { hour });
-    }
-    match missing_party(cells) {
-        Some(party) => Some(SheetRefusal::Reading { hour: hour as u8, party }),
-        None => None,
-    }
+    sum
 }

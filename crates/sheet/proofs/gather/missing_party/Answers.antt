@@ -4,7 +4,7 @@ use mathlib.Core.Path.{_≡_, sym, ap, _∙_}
 use Rattle.std.specs.Options.{isSome}
 use Rattle.hourly.specs.Cells.{CellFigures}
 use Rattle.sheet.proofs.Rows.{missing-here, missing-more, missing-none}
-use Rattle.sheet.proofs.missing_party.Needs as need
+use Rattle.sheet.proofs.gather.missing_party.Needs as need
 
 pub returns-then-is-none : need.returns-then-is-none
 returns-then-is-none c =

@@ -1,6 +1,6 @@
 use borrow.Author.Needs.{needs}
 use lib.ListN.{length-map}
-use Rattle.sheet.proofs.refusal_at.Needs as need
+use Rattle.sheet.proofs.gather.refusal_at.Needs as need
 
 pub returns-then-is-empty : need.returns-then-is-empty
 returns-then-is-empty c = search (needs, length-map)

@@ -11,7 +11,7 @@ use Rattle.sheet.specs.declared.row.Row.{Row}
 use Rattle.sheet.specs.Bounds.{Row-within, zero-row}
 use Rattle.sheet.specs.Gathering.{row-of}
 use Rattle.sheet.proofs.Rows.{each-set, rows-more}
-use Rattle.sheet.proofs.rows_of.Needs as need
+use Rattle.sheet.proofs.gather.rows_of.Needs as need
 
 pub loop-i-again : need.loop-i-again
 loop-i-again c =
