@@ -9,11 +9,12 @@ use mathlib.Core.Path.{_≡_, refl, sym, ap, subst, _∙_}
 use Rattle.std.specs.Options.{isSome}
 use Rattle.std.specs.declared.option.Option.{Option}
 use Rattle.std.specs.declared.option.Option.the-variants.{Some, None}
-use Rattle.std.proofs.shelf.Lists.{take-more-set, map-more, map-push, getD-set-same, getD-set-other, at-drop-more, at-drop-all}
-use Rattle.std.proofs.shelf.Tests.{cases-eq, cond-true, cond-false}
+use Rattle.std.proofs.shelf.Lists.{take-more-set, map-more, map-push, getD-set-same, getD-set-other, at-drop-more, at-drop-all, getD-take, getD-past, length-take}
+use Rattle.std.proofs.shelf.Tests.{cases-eq, cases-lt, cond-true, cond-false}
 use Rattle.hourly.specs.declared.plain.PlainCell.{PlainCell}
 use Rattle.hourly.specs.Cells.{CellFigures, read, blank}
 use Rattle.sheet.specs.declared.row.Row.{Row}
+use Rattle.sheet.specs.Bounds.{Row-within, Rows-within, zero-row}
 use Rattle.sheet.specs.Gathering.{row-of, first-missing}
 
 -- what holds of each element still does after one is written of which it holds
@@ -45,3 +46,11 @@ missing-more cells i h t =
 
 pub missing-none : (cells : List PlainCell) (i : ℕ) → length cells ≤ i → first-missing (i + 1) (map read (drop i cells)) ≡ None
 missing-none cells i h = at-drop-all (λ (xs : List PlainCell). first-missing (i + 1) (map read xs)) cells i h
+
+-- rows within the bounds, the first of them
+pub rows-taken : (rows : List Row) (n : ℕ) → Rows-within rows → Rows-within (take n rows)
+rows-taken rows n h k =
+    ⊎-elim
+    (λ lt. subst Row-within (sym (getD-take n rows k zero-row lt)) (h k))
+    (λ ge. subst Row-within (sym (getD-past (take n rows) k zero-row (omega (arith, length-take n rows)))) (omega arith, omega arith, omega arith, omega arith))
+    (cases-lt k n)

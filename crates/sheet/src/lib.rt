@@ -6,6 +6,7 @@ ghost use lib.IntN.{ℤ, natAbs};
 ghost use lib.ListN.{length};
 ghost use Rattle.units.specs.Sums.{page, sumZ};
 ghost use Rattle.sheet.specs.Bounds.{Row-within, Rows-within, Within};
+ghost use Rattle.sheet.specs.Gathering.{facts};
 ghost use Rattle.sheet.specs.declared.row.Row.{Row};
 
 pub mod gather;
@@ -14,6 +15,7 @@ pub mod price;
 pub mod priced;
 pub mod row;
 
+use gathered::Gathered;
 use row::Row;
 
 // A figure that every row has, and the limit that it never passes.
@@ -29,8 +31,8 @@ pub trait Figure {
         ensures { λ r. ⌜ r ≡ figure (now (self .entry)) (now (row .entry)) ⌝ };
 }
 
-// A column of a sheet: a figure of each row on a page of 20 places, 0 past the last row.
-fn column<F: Figure>(figure: &F, rows: &[Row]) -> [i64; 20]
+// A figure of each row on a page of 20 places, 0 past the last row.
+fn figures_of<F: Figure>(figure: &F, rows: &[Row]) -> [i64; 20]
     requires few { ⌜ length (now rows) ≤ 20 ⌝ }
     requires within { ⌜ Rows-within (now rows) ⌝ }
     ensures value { λ r. ⌜ r ≡ page (map (F·Figure .figure (now (figure .entry))) (now (rows .entry))) ⌝ }
@@ -55,4 +57,36 @@ fn sum(xs: &[i64; 20], limit: u64) -> i64
         sum += *x;
     }
     sum
+}
+
+// A column of a sheet: a figure of each row, and their total.
+#[derive(Clone, Copy)]
+struct Column {
+    figures: [i64; 20],
+    total: i64,
+}
+
+// The column of a figure that has a limit.
+fn totalled<F: Figure>(figure: &F, limit: u64, rows: &[Row]) -> Column
+    requires few { ⌜ length (now rows) ≤ 20 ⌝ }
+    requires within { ⌜ Rows-within (now rows) ⌝ }
+    requires limited { ⌜ limit ≡ F·Figure .limit (now figure) ⌝ }
+    requires small { ⌜ limit ≤ 30000000000 ⌝ }
+    ensures figures { λ r. ⌜ r .figures ≡ page (map (F·Figure .figure (now (figure .entry))) (now (rows .entry))) ⌝ }
+    ensures total { λ r. ⌜ r .total ≡ sumZ (map (F·Figure .figure (now (figure .entry))) (now (rows .entry))) ⌝ }
+    ensures each { λ r. ⌜ Within limit (r .figures) ⌝ }
+    ensures bound { λ r. ⌜ natAbs (r .total) ≤ 20 * limit ⌝ }
+{
+    let figures = figures_of(figure, rows);
+    let total = sum(&figures, limit);
+    Column { figures, total }
+}
+
+// The rows of a sheet's parties.
+fn party_rows(sheet: &Gathered) -> &[Row]
+    ensures value { λ r. ⌜ now r ≡ facts (now (sheet .entry)) .rows ⌝ }
+    ensures few { λ r. ⌜ length (now r) ≤ 20 ⌝ }
+    ensures within { λ r. ⌜ Rows-within (now r) ⌝ }
+{
+    &sheet.rows[0..sheet.count]
 }

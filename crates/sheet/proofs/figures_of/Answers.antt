@@ -14,7 +14,7 @@ use Rattle.sheet.specs.declared.row.Row.{Row}
 use Rattle.sheet.specs.Bounds.{zero-row}
 use Rattle.sheet.proofs.Columns.{column-more}
 use Rattle.sheet.proofs.Rows.{each-set}
-use Rattle.sheet.proofs.column.Needs as need
+use Rattle.sheet.proofs.figures_of.Needs as need
 
 pub loop-i-again : need.loop-i-again
 loop-i-again g c =
