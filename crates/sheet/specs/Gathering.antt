@@ -55,4 +55,4 @@ rows-gathered hour cells = cond (isSome (gather-refusal hour cells)) [] (map row
 
 -- what a gathered sheet knows of its hour
 abbrev pub facts : Gathered → HourFacts
-facts g = record { rows = take (g .count) (g .rows); deliveries = record-figures (g .record) }
+facts g = record { rows = take (g .count) (g .rows); deliveries = record-figures (g .deliveries) }

@@ -2,14 +2,19 @@
 ghost use mathlib.Core.List.{map};
 ghost use mathlib.Core.Path.{_≡_};
 ghost use Prim.Native.Nat.{_≤_};
-ghost use lib.ListN.{length, take};
+ghost use lib.ListN.{length, replicate, take};
+ghost use Rattle.std.specs.declared.option.Option.the-variants.{None};
 ghost use Rattle.hourly.specs.Cells.{read};
-ghost use Rattle.sheet.specs.Bounds.{Row-within, Rows-within};
-ghost use Rattle.sheet.specs.Gathering.{first-missing, gather-refusal, row-of, told};
-use hourly::cell::Cell;
-use hourly::plain::PlainCell;
+ghost use Rattle.hourly.specs.Records.{record-read};
+ghost use Rattle.sheet.specs.Bounds.{Row-within, Rows-within, zero-row};
+ghost use Rattle.sheet.specs.Gathering.{facts, first-missing, gather-refusal, row-of, rows-gathered, told};
+use super::gathered::Gathered;
 use super::row::Row;
 use super::row::SheetRefusal;
+use hourly::cell::Cell;
+use hourly::plain::PlainCell;
+use hourly::plain::PlainRecord;
+use hourly::record::HourRecord;
 
 impl SheetRefusal {
     pub fn number(&self) -> u8
@@ -40,7 +45,25 @@ fn row_at(p: &PlainCell) -> Row
 {
     let cell = Cell::from_plain(p);
     let reading = cell.reading.unwrap_or(0);
-    Row { position: cell.position, regulating: cell.regulating, tenths: cell.tenths, reading }
+    Row {
+        position: cell.position,
+        regulating: cell.regulating,
+        tenths: cell.tenths,
+        reading,
+    }
+}
+
+// Rows of zeros.
+fn no_rows() -> [Row; 20]
+    ensures value { λ r. ⌜ r ≡ replicate 20 zero-row ⌝ }
+    ensures within { λ r. ⌜ Rows-within r ⌝ }
+{
+    [Row {
+        position: 0,
+        regulating: 0,
+        tenths: 0,
+        reading: 0,
+    }; 20]
 }
 
 // The rows of the cells, and rows of zeros past them.
@@ -49,7 +72,7 @@ fn rows_of(cells: &[PlainCell]) -> [Row; 20]
     ensures value { λ r. ⌜ take (length (now (cells .entry))) r ≡ map row-of (map read (now (cells .entry))) ⌝ }
     ensures within { λ r. ⌜ Rows-within r ⌝ }
 {
-    let mut rows = [Row { position: 0, regulating: 0, tenths: 0, reading: 0 }; 20];
+    let mut rows = no_rows();
     for (i, cell) in cells.iter().enumerate() {
         rows[i] = row_at(cell);
     }
@@ -71,7 +94,8 @@ fn missing_party(cells: &[PlainCell]) -> Option<u8>
 
 // The refusal that gathering meets, if any.
 fn refusal_at(hour: i64, cells: &[PlainCell]) -> Option<SheetRefusal>
-    ensures { λ r. ⌜ r ≡ gather-refusal hour (map read (now (cells .entry))) ⌝ }
+    ensures value { λ r. ⌜ r ≡ gather-refusal hour (map read (now (cells .entry))) ⌝ }
+    ensures few { λ r. ⌜ (r ≡ None → length (now (cells .entry)) ≤ 20) ⌝ }
 {
     if cells.is_empty() || cells.len() > 20 {
         return Some(SheetRefusal::Parties);
@@ -80,7 +104,44 @@ fn refusal_at(hour: i64, cells: &[PlainCell]) -> Option<SheetRefusal>
         return Some(SheetRefusal::Hour { hour });
     }
     match missing_party(cells) {
-        Some(party) => Some(SheetRefusal::Reading { hour: hour as u8, party }),
+        Some(party) => Some(SheetRefusal::Reading {
+            hour: hour as u8,
+            party,
+        }),
         None => None,
+    }
+}
+
+impl Gathered {
+    // The sheet of an hour whose cells, one for each party in order, and regulating deliveries lie as plain numbers.
+    pub fn gather(hour: i64, cells: &[PlainCell], deliveries: &PlainRecord) -> Gathered
+        ensures refusal { λ r. ⌜ r .refusal ≡ gather-refusal hour (map read (now (cells .entry))) ⌝ }
+        ensures rows { λ r. ⌜ facts r .rows ≡ rows-gathered hour (map read (now (cells .entry))) ⌝ }
+        ensures deliveries { λ r. ⌜ facts r .deliveries ≡ record-read (now (deliveries .entry)) ⌝ }
+    {
+        let deliveries = HourRecord::from_plain(deliveries);
+        if let Some(refusal) = refusal_at(hour, cells) {
+            let rows = no_rows();
+            return Gathered {
+                count: 0,
+                rows,
+                deliveries,
+                refusal: Some(refusal),
+            };
+        }
+        let rows = rows_of(cells);
+        Gathered {
+            count: cells.len(),
+            rows,
+            deliveries,
+            refusal: None,
+        }
+    }
+
+    // The refusal that gathering met, if any.
+    pub fn refusal(&self) -> Option<SheetRefusal>
+        ensures { λ r. ⌜ r ≡ now (self .entry) .refusal ⌝ }
+    {
+        self.refusal
     }
 }

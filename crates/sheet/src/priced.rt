@@ -1,6 +1,6 @@
 ghost use Rattle.sheet.specs.Bounds.{Within};
-use pricing::prices::Prices;
 use super::gathered::Gathered;
+use pricing::prices::Prices;
 
 // A priced sheet: imbalances and their sum, both prices, and first amounts, on pages of 20 places. It tells no amounts: it is not balanced yet.
 #[derive(Drop)]

@@ -17,10 +17,11 @@ pub loop-i-again : need.loop-i-again
 loop-i-again c =
     let i = c .loop-i .i in
     let rows = c .loop-i .rows in
-    let l : i < length rows = omega arith in
-    ( rows-more rows (c .args .cells .now) i (c .row-at .result) (c .loop-i-test .taken) l (c .loop-i .inv .0) (c .row-at .ensures .value),
+    let l : i < length rows = omega arith in (
+      rows-more rows (c .args .cells .now) i (c .row-at .result) (c .loop-i-test .taken) l (c .loop-i .inv .0) (c .row-at .ensures .value),
       each-set Row-within rows i (c .row-at .result) zero-row l (c .loop-i .inv .1) (c .row-at .ensures .within),
-      length-set rows i _ ∙ c .loop-i .inv .2 )
+      length-set rows i _ ∙ c .loop-i .inv .2,
+    )
 
 pub returns : need.returns
 returns c =
