@@ -1,0 +1,4 @@
+pub mod Signs
+pub mod Runs
+pub mod Ranges
+pub mod Leftovers
