@@ -4,15 +4,16 @@ use native.Mathlib.Omega.{arith}
 use native.Mathlib.Nat.{not-suc-le-zero, div-zero, div-add-mod', mul-zero, zero-div, zero-mod, le-of-mul-le-mul-right}
 use lib.Dec.{ltb}
 use lib.IntN.{ℤ, pos, natAbs}
-use lib.ListN.{length, getD, set, length-set, length-map}
+use lib.ListN.{length, getD, set, drop, length-set, length-map}
 use mathlib.Core.Bool.{Bool, true, false, cond}
 use mathlib.Core.List.{List, [], _∷_, map}
 use mathlib.Core.Logic.{_⊎_, inl, inr, ⊎-elim}
 use mathlib.Core.Path.{_≡_, refl, sym, ap, subst, _∙_}
 use Rattle.std.proofs.shelf.Bits.{mod-below}
-use Rattle.std.proofs.shelf.Lists.{getD-set-same, getD-set-other, getD-map}
-use Rattle.std.proofs.shelf.Tests.{cond-both, cond-true, lt-ltb, ltb-true, ltb-false, cases-eq, cases-lt}
-use Rattle.units.specs.Sums.{sumN}
+use Rattle.std.proofs.shelf.Lists.{getD-set-same, getD-set-other, getD-map, at-drop-more}
+use Rattle.std.proofs.shelf.Tests.{cond-both, cond-true, cond-false, lt-ltb, le-ltb, ltb-true, ltb-false, cases-eq, cases-lt}
+use Rattle.units.specs.Sums.{sumN, page}
+use Rattle.units.proofs.Summing.{page-inside}
 use Rattle.sharing.specs.Laws.{Lawful}
 use Rattle.sharing.specs.Rules.{pick, largest, give, floors, rests, leftover, largest-shares, largestRemainder, signed, below-zero, Ahead, Serves}
 use Rattle.sharing.proofs.Signs.{Splits, lawful, getD-signed, signed-same}
@@ -311,7 +312,7 @@ floor-or-more m ws k =
     (cases-lt 0 (sumN ws))
 
 -- parts that are those of the rule serve the largest remainders
-pub serves : (n : ℤ) (ws : List ℕ) (ps : List ℤ) → ((k : ℕ) → k < length ws → getD ps k (pos 0) ≡ getD (largestRemainder n ws) k (pos 0)) → Serves n ws ps
+serves : (n : ℤ) (ws : List ℕ) (ps : List ℤ) → ((k : ℕ) → k < length ws → getD ps k (pos 0) ≡ getD (largestRemainder n ws) k (pos 0)) → Serves n ws ps
 serves n ws ps same =
     let m = natAbs n in
     let b = below-zero n in
@@ -321,3 +322,15 @@ serves n ws ps same =
       each = λ k h. ⊎-elim (λ e. inl (at k h ∙ ap (signed b) e)) (λ e. inr (at k h ∙ ap (signed b) e)) (floor-or-more m ws k);
       order = λ j k hj hk p u. serves-shares m ws j k (signed-same b _ _ (sym (at j hj) ∙ p)) (signed-same b _ _ (sym (at k hk) ∙ u));
     }
+
+-- the same of the page
+pub serves-page : (n : ℤ) (ws : List ℕ) (ps : List ℤ) → ps ≡ page (largestRemainder n ws) → Serves n ws ps
+serves-page n ws ps e = serves n ws ps (λ k h. ap (λ (xs : List ℤ). getD xs k (pos 0)) e ∙ page-inside (largestRemainder n ws) k (omega (arith, largest-lawful .len n ws)))
+
+-- The search for the largest, one step on
+
+pub pick-this : (xs : List ℕ) (i b v : ℕ) → i < length xs → v < getD xs i 0 → pick i b v (drop i xs) ≡ pick (i + 1) i (getD xs i 0) (drop (i + 1) xs)
+pick-this xs i b v h lt = at-drop-more (pick i b v) xs i 0 h ∙ cond-true (ltb v (getD xs i 0)) _ _ (lt-ltb v (getD xs i 0) lt)
+
+pub pick-before : (xs : List ℕ) (i b v : ℕ) → i < length xs → getD xs i 0 ≤ v → pick i b v (drop i xs) ≡ pick (i + 1) b v (drop (i + 1) xs)
+pick-before xs i b v h le = at-drop-more (pick i b v) xs i 0 h ∙ cond-false (ltb v (getD xs i 0)) _ _ (le-ltb v (getD xs i 0) le)

@@ -1,16 +1,17 @@
 -- A rule on magnitudes, with the sign restored: what it keeps of magnitudes gives the laws. Assumes nothing.
 use Prim.Native.Nat.{ℕ, zero, suc, _+_, _*_, _≤_, _<_}
 use native.Mathlib.Omega.{arith}
-use native.Mathlib.Nat.{not-suc-le-zero}
 use lib.IntN.{ℤ, pos, negsuc, natAbs, _+ℤ_, _-ℤ_, _*ℤ_}
-use lib.ListN.{length, getD, length-map}
+use lib.ListN.{length, getD, replicate, length-map, length-replicate}
 use lib.Signed.{ltZ}
 use mathlib.Core.List.{List, [], _∷_, map}
+use mathlib.Core.Logic.{⊎-elim}
 use mathlib.Core.Bool.{Bool, true, false}
 use mathlib.Core.Path.{_≡_, refl, sym, ap, subst, _∙_}
+use Rattle.std.proofs.shelf.Lists.{ext-getD, getD-replicate}
 use Rattle.std.proofs.shelf.Signed.{ints}
-use Rattle.std.proofs.shelf.Tests.{le-ltb}
-use Rattle.units.specs.Sums.{sumN, sumZ}
+use Rattle.std.proofs.shelf.Tests.{le-ltb, cases-lt}
+use Rattle.units.specs.Sums.{sumN, sumZ, page}
 use Rattle.sharing.specs.Laws.{Lawful}
 use Rattle.sharing.specs.Rules.{signed, below-zero, by-magnitude}
 
@@ -84,3 +85,22 @@ at-most-sum (x ∷ xs) (suc k) = omega (arith, at-most-sum xs k)
 pub no-sum : (xs : List ℕ) → ((k : ℕ) → getD xs k 0 ≡ 0) → sumN xs ≡ 0
 no-sum [] h = refl
 no-sum (x ∷ xs) h = omega (arith, h 0, no-sum xs (λ k. h (suc k)))
+
+-- a list of n numbers, each 0
+pub all-zero : (xs : List ℕ) (n : ℕ) → length xs ≡ n → ((k : ℕ) → getD xs k 0 ≡ 0) → xs ≡ replicate n 0
+all-zero xs n l h = ext-getD 0 xs (replicate n 0) (l ∙ sym (length-replicate n 0)) (λ k b. h k ∙ sym (getD-replicate n k 0 0 (omega arith)))
+
+-- the shares add up to no more than is shared
+pub splits-within : (f : ℕ → List ℕ → List ℕ) → Splits f → (m : ℕ) (ws : List ℕ) → sumN (f m ws) ≤ m
+splits-within f s m ws = ⊎-elim
+    (λ p. omega (arith, s .whole m ws p))
+    (λ z. omega (arith, no-sum (f m ws) (λ k. s .none m ws k (omega arith))))
+    (cases-lt 0 (sumN ws))
+
+-- the shares of the magnitude, with the sign restored
+pub restored : (f : ℕ → List ℕ → List ℕ) (n : ℤ) (m : ℕ) (b : Bool) (us ws : List ℕ) → b ≡ below-zero n → m ≡ natAbs n → us ≡ ws → page (map (signed b) (f m us)) ≡ page (by-magnitude f n ws)
+restored f n m b us ws hb hm hu = cc
+
+pub some-weight : (ws : List ℕ) → 0 < sumN ws → 0 < length ws
+some-weight [] h = h
+some-weight (w ∷ ws) h = omega arith

@@ -9,7 +9,9 @@ ghost use Rattle.sharing.specs.Laws.{Lawful};
 ghost use Rattle.sharing.specs.Limits.{in-range, refusal, weight-refusal, answer, afterwards, magnitudes, Admits};
 ghost use Rattle.sharing.specs.Rules.{signed};
 ghost use Rattle.units.specs.Sums.{sumN, page};
+pub mod largest_remainder;
 pub mod refusal;
+pub mod running;
 use refusal::SharingRefusal;
 
 const MOST_HALERS: u64 = 600_000_000_000;
@@ -90,7 +92,10 @@ fn sum(numbers: &[u64]) -> u64
 
 // The whole part of m × weight / total.
 fn floor(m: u64, weight: u64, total: u64) -> u64
-    requires { ⌜ m ≤ 600000000000 ⌝ ∗ ⌜ weight ≤ total ⌝ ∗ ⌜ total ≤ 9999980 ⌝ ∗ ⌜ 1 ≤ total ⌝ }
+    requires halers { ⌜ m ≤ 600000000000 ⌝ }
+    requires part { ⌜ weight ≤ total ⌝ }
+    requires light { ⌜ total ≤ 9999980 ⌝ }
+    requires some { ⌜ 1 ≤ total ⌝ }
     ensures value { λ r. ⌜ r ≡ m * weight / total ⌝ }
     ensures most { λ r. ⌜ r ≤ m ⌝ }
 {
@@ -107,7 +112,8 @@ fn with_sign(negative: bool, m: u64) -> i64
 
 // Fills the page with the shares under a sign, and 0 past the last.
 fn restore(negative: bool, shares: &[u64], parts: &mut [i64; 20])
-    requires { ⌜ length (now shares) ≤ 20 ⌝ ∗ ⌜ sumN (now shares) ≤ 600000000000 ⌝ }
+    requires few { ⌜ length (now shares) ≤ 20 ⌝ }
+    requires halers { ⌜ sumN (now shares) ≤ 600000000000 ⌝ }
     ensures { λ _. ⌜ now (parts .exit) ≡ page (mapped (signed negative) (now (shares .entry))) ⌝ }
 {
     *parts = [0; 20];

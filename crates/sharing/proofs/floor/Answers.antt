@@ -5,5 +5,5 @@ use Rattle.sharing.proofs.floor.Needs as need
 
 pub returns : need.returns
 returns c =
-    let h = mul-le-mul-left (c .args .m) (c .pre .1 .0) in
+    let h = mul-le-mul-left (c .args .m) (c .pre .part) in
     record { value = refl; most = div-le-of-le-mul (c .args .total) (omega arith) }
