@@ -1,0 +1,5 @@
+pub mod Signs
+pub mod Runs
+pub mod Leftovers
+pub mod Ranges
+pub mod Parts
