@@ -12,6 +12,7 @@
 use Prim.Native.Nat.{ℕ}
 use lib.Dec.{ltb}
 use lib.IntN.{ℤ, pos, negℤ, natAbs, _+ℤ_, _-ℤ_, _*ℤ_}
+use lib.ListN.{length, replicate}
 use lib.Signed.{ltZ}
 use mathlib.Core.Bool.{cond}
 use mathlib.Core.List.{List, [], _∷_, map}
@@ -70,3 +71,33 @@ weight r = natAbs (r .reading)
 
 abbrev pub weights : List Row → List ℕ
 weights rows = map weight rows
+
+-- Step 5
+
+-- a map from a remainder and weights to parts
+abbrev pub ShareMap : Type 0
+ShareMap = ℤ → List ℕ → List ℤ
+
+-- the parts of a remainder over weights: by the map if any party has a weight, else all 0
+abbrev pub parts-by : ShareMap → ℤ → List ℕ → List ℤ
+parts-by g n ws = cond (ltb 0 (sumN ws)) (g n ws) (replicate (length ws) (pos 0))
+
+-- the operator's part of a remainder: all of it if no party has a weight
+abbrev pub operator-by : ℤ → List ℕ → ℤ
+operator-by n ws = cond (ltb 0 (sumN ws)) (pos 0) n
+
+-- one list added to another, place by place
+abbrev pub added : List ℤ → List ℤ → List ℤ
+added [] ys = []
+added (x ∷ xs) [] = x ∷ xs
+added (x ∷ xs) (y ∷ ys) = (x +ℤ y) ∷ added xs ys
+
+abbrev pub parts : PriceMap → ShareMap → HourFacts → List ℤ
+parts f g h = parts-by g (remainder f h) (weights (h .rows))
+
+-- a party's amount: its first amount and its part
+abbrev pub amounts : PriceMap → ShareMap → HourFacts → List ℤ
+amounts f g h = added (first-amounts f h) (parts f g h)
+
+abbrev pub operator-part : PriceMap → HourFacts → ℤ
+operator-part f h = operator-by (remainder f h) (weights (h .rows))

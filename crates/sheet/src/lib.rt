@@ -9,6 +9,8 @@ ghost use Rattle.sheet.specs.Bounds.{Row-within, Rows-within, Within};
 ghost use Rattle.sheet.specs.Gathering.{facts};
 ghost use Rattle.sheet.specs.declared.row.Row.{Row};
 
+pub mod balance;
+pub mod balanced;
 pub mod gather;
 pub mod gathered;
 pub mod price;
