@@ -106,8 +106,8 @@ pub parts-whole : (g : ShareMap) → Lawful g → (n : ℤ) (ws : List ℕ) → 
 parts-whole g laws n ws =
     ap (λ (y : ℤ). y +ℤ operator-by n ws) (sumZ-page (parts-by g n ws))
     ∙ pick-both (ltb 0 (sumN ws)) (g n ws) (replicate (length ws) (pos 0)) n n
-      (λ t. let w = laws .whole n ws (ltb-true 0 (sumN ws) t) in omega (arith, ints))
-      (λ t. let z = sumZ-zeros (length ws) in omega (arith, ints))
+    (λ t. let w = laws .whole n ws (ltb-true 0 (sumN ws) t) in omega (arith, ints))
+    (λ t. let z = sumZ-zeros (length ws) in omega (arith, ints))
 
 -- no part is larger than the remainder
 pub parts-small : (g : ShareMap) → Lawful g → (n : ℤ) (ws : List ℕ) (m : ℕ) → natAbs n ≤ m → length ws ≤ 20 → Within m (page (parts-by g n ws))

@@ -25,12 +25,13 @@ loop-i-again c =
     let hy = c .pre .parts i in
     let v : toZ w64 (ofZ w64 (toZ w64 (ofZ w64 x) +ℤ toZ w64 (ofZ w64 y))) ≡ x +ℤ y = sum-read x y (omega arith) (omega arith) in
     let l : i < length xs = omega arith in
-    let small : natAbs (x +ℤ y) ≤ 630000000000 = omega (arith, sum-within x y) in
-    ( below-more _ _
-        (λ k h. getD-set-other xs i k _ (pos 0) (omega arith) ∙ c .loop-i .inv .0 k h)
-        (getD-set-same xs i _ (pos 0) l ∙ v),
+    let small : natAbs (x +ℤ y) ≤ 630000000000 = omega (arith, sum-within x y) in (
+      below-more _ _
+          (λ k h. getD-set-other xs i k _ (pos 0) (omega arith) ∙ c .loop-i .inv .0 k h)
+          (getD-set-same xs i _ (pos 0) l ∙ v),
       each-set (λ (z : ℤ). natAbs z ≤ 630000000000) xs i _ (pos 0) l (c .loop-i .inv .1) (subst (λ (z : ℤ). natAbs z ≤ 630000000000) (sym v) small),
-      length-set xs i _ ∙ c .loop-i .inv .2 )
+      length-set xs i _ ∙ c .loop-i .inv .2,
+    )
 
 pub returns : need.returns
 returns c =
