@@ -1,3 +1,4 @@
 pub mod Bounds
 pub mod Evaluation
 pub mod Gathering
+pub mod Sheets

@@ -6,6 +6,7 @@ ghost use lib.IntN.{ℤ, natAbs};
 ghost use lib.ListN.{length};
 ghost use Rattle.units.specs.Sums.{page, sumZ};
 ghost use Rattle.sheet.specs.Bounds.{Row-within, Rows-within, Within};
+ghost use Rattle.sheet.specs.Evaluation.{price-for};
 ghost use Rattle.sheet.specs.Gathering.{facts};
 ghost use Rattle.sheet.specs.declared.row.Row.{Row};
 
@@ -13,11 +14,14 @@ pub mod balance;
 pub mod balanced;
 pub mod gather;
 pub mod gathered;
+pub mod line;
 pub mod price;
 pub mod priced;
 pub mod row;
+pub mod tell;
 
 use gathered::Gathered;
+use pricing::prices::Prices;
 use row::Row;
 
 // A figure that every row has, and the limit that it never passes.
@@ -82,6 +86,13 @@ fn totalled<F: Figure>(figure: &F, limit: u64, rows: &[Row]) -> Column
     let figures = figures_of(figure, rows);
     let total = sum(&figures, limit);
     Column { figures, total }
+}
+
+// The price of an imbalance.
+fn price_for(prices: &Prices, kwh: i64) -> i64
+    ensures { λ r. ⌜ r ≡ price-for (now (prices .entry)) kwh ⌝ }
+{
+    if kwh < 0 { prices.short } else { prices.long }
 }
 
 // The rows of a sheet's parties.

@@ -15,6 +15,7 @@ use super::Figure;
 use super::figures_of;
 use super::gathered::Gathered;
 use super::party_rows;
+use super::price_for;
 use super::priced::Priced;
 use super::row::Row;
 use super::totalled;
@@ -43,13 +44,6 @@ impl Figure for Imbalances as ImbalancesFigure {
     fn of(&self, row: &Row) -> i64 {
         imbalance_of(row)
     }
-}
-
-// The price of an imbalance.
-fn price_for(prices: &Prices, kwh: i64) -> i64
-    ensures { λ r. ⌜ r ≡ price-for (now (prices .entry)) kwh ⌝ }
-{
-    if kwh < 0 { prices.short } else { prices.long }
 }
 
 // The tenths of an imbalance at its price.
