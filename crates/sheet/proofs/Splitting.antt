@@ -102,12 +102,22 @@ pick-both true xs ys y n t f = t refl
 pick-both false xs ys y n t f = f refl
 
 -- parts and operator's part make up the remainder
-pub parts-whole : (g : ShareMap) → Lawful g → (n : ℤ) (ws : List ℕ) → sumZ (page (parts-by g n ws)) +ℤ operator-by n ws ≡ n
-parts-whole g laws n ws =
-    ap (λ (y : ℤ). y +ℤ operator-by n ws) (sumZ-page (parts-by g n ws))
-    ∙ pick-both (ltb 0 (sumN ws)) (g n ws) (replicate (length ws) (pos 0)) n n
+pub parts-make-up : (g : ShareMap) → Lawful g → (n : ℤ) (ws : List ℕ) → sumZ (parts-by g n ws) +ℤ operator-by n ws ≡ n
+parts-make-up g laws n ws =
+    pick-both (ltb 0 (sumN ws)) (g n ws) (replicate (length ws) (pos 0)) n n
     (λ t. let w = laws .whole n ws (ltb-true 0 (sumN ws) t) in omega (arith, ints))
     (λ t. let z = sumZ-zeros (length ws) in omega (arith, ints))
+
+-- so they do on a page
+pub parts-whole : (g : ShareMap) → Lawful g → (n : ℤ) (ws : List ℕ) → sumZ (page (parts-by g n ws)) +ℤ operator-by n ws ≡ n
+parts-whole g laws n ws = ap (λ (y : ℤ). y +ℤ operator-by n ws) (sumZ-page (parts-by g n ws)) ∙ parts-make-up g laws n ws
+
+-- every weight has a part
+pub length-parts : (g : ShareMap) → Lawful g → (n : ℤ) (ws : List ℕ) → length (parts-by g n ws) ≡ length ws
+length-parts g laws n ws =
+    cond-both (ltb 0 (sumN ws)) (g n ws) (replicate (length ws) (pos 0)) (λ (xs : List ℤ). length xs ≡ length ws)
+    (λ _. laws .len n ws)
+    (λ _. length-replicate (length ws) (pos 0))
 
 -- no part is larger than the remainder
 pub parts-small : (g : ShareMap) → Lawful g → (n : ℤ) (ws : List ℕ) (m : ℕ) → natAbs n ≤ m → length ws ≤ 20 → Within m (page (parts-by g n ws))

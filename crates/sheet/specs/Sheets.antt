@@ -2,7 +2,8 @@
 --
 --   line-at b k            the line of the party at place k, counted from 0
 --   totals b               the hour as a whole
---   Evaluated f g h b      b is the balanced sheet of the hour h, by the pricing map f and the sharing map g
+--   written b              every figure that stands on a balanced sheet
+--   evaluated f g h        every figure of the hour h, by the pricing map f and the sharing map g
 --   Conserves f g          amounts and operator's part of every hour add up to 0
 use Prim.Native.Nat.{ℕ}
 use lib.IntN.{ℤ, pos, _+ℤ_}
@@ -13,6 +14,7 @@ use Rattle.units.specs.Sums.{page, sumN, sumZ}
 use Rattle.hourly.specs.Cells.{CellFigures}
 use Rattle.hourly.specs.Records.{HourFigures}
 use Rattle.pricing.specs.Prices.{PriceMap}
+use Rattle.pricing.specs.declared.prices.Prices.{Prices}
 use Rattle.sheet.specs.declared.balanced.Balanced.{Balanced}
 use Rattle.sheet.specs.declared.line.Line.{Line}
 use Rattle.sheet.specs.declared.line.Totals.{Totals}
@@ -42,18 +44,48 @@ totals b = record { parties = b .priced .gathered .count; system = b .priced .sy
 abbrev pub hour-facts : ℤ → List CellFigures → HourFigures → HourFacts
 hour-facts hour cells d = record { rows = rows-gathered hour cells; deliveries = d }
 
--- every figure of a balanced sheet is that of the hour
-pub record Evaluated (f : PriceMap) (g : ShareMap) (h : HourFacts) (b : Balanced) : Type 0 where
-  pub hour : facts (b .priced .gathered) ≡ h
-  pub imbalances : b .priced .imbalances ≡ page (map imbalance (h .rows))
-  pub system : b .priced .system ≡ system-imbalance (h .rows)
-  pub prices : b .priced .prices ≡ prices-of f h
-  pub firsts : b .priced .firsts ≡ page (first-amounts f h)
-  pub remainder : b .remainder ≡ remainder f h
-  pub weight : b .weight ≡ pos (sumN (weights (h .rows)))
-  pub parts : b .parts ≡ page (parts f g h)
-  pub amounts : b .amounts ≡ page (amounts f g h)
-  pub operator : b .operator ≡ operator-part f h
+-- every figure of an hour, from the first step to the last; lists lie on pages of 20 places
+pub record SheetFigures : Type 0 where
+  pub hour : HourFacts
+  pub imbalances : List ℤ
+  pub system : ℤ
+  pub prices : Prices
+  pub firsts : List ℤ
+  pub remainder : ℤ
+  pub weight : ℤ
+  pub parts : List ℤ
+  pub amounts : List ℤ
+  pub operator : ℤ
+
+-- those that stand on a balanced sheet
+abbrev pub written : Balanced → SheetFigures
+written b = record {
+  hour = facts (b .priced .gathered);
+  imbalances = b .priced .imbalances;
+  system = b .priced .system;
+  prices = b .priced .prices;
+  firsts = b .priced .firsts;
+  remainder = b .remainder;
+  weight = b .weight;
+  parts = b .parts;
+  amounts = b .amounts;
+  operator = b .operator;
+}
+
+-- those of an hour, by a pricing map f and a sharing map g
+abbrev pub evaluated : PriceMap → ShareMap → HourFacts → SheetFigures
+evaluated f g h = record {
+  hour = h;
+  imbalances = page (map imbalance (h .rows));
+  system = system-imbalance (h .rows);
+  prices = prices-of f h;
+  firsts = page (first-amounts f h);
+  remainder = remainder f h;
+  weight = pos (sumN (weights (h .rows)));
+  parts = page (parts f g h);
+  amounts = page (amounts f g h);
+  operator = operator-part f h;
+}
 
 -- in every hour amounts and operator's part add up to 0
 abbrev pub Conserves : PriceMap → ShareMap → Type 0

@@ -12,6 +12,7 @@ ghost use Rattle.sheet.specs.declared.row.Row.{Row};
 
 pub mod balance;
 pub mod balanced;
+pub mod evaluate;
 pub mod gather;
 pub mod gathered;
 pub mod line;
