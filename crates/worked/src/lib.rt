@@ -14,15 +14,21 @@ use hours::WorkedHour;
 // The figures stand.
 fn figures_stand()
     ensures { λ _. ⌜ Figures ⌝ }
-{
-}
+{}
 
 // A party's cell with a position and a reading.
 fn metered_cell(position: i64, reading: i64) -> PlainCell
     requires { ⌜ natAbs position ≤ 499999 ⌝ ∗ ⌜ natAbs reading ≤ 499999 ⌝ }
     ensures { λ r. ⌜ read r ≡ metered position reading ⌝ }
 {
-    PlainCell { position, regulating: 0, tenths: 0, metered: true, reading, last: 0 }
+    PlainCell {
+        position,
+        regulating: 0,
+        tenths: 0,
+        metered: true,
+        reading,
+        last: 0,
+    }
 }
 
 // The cells of a worked hour, of which the figures hold.
@@ -35,7 +41,14 @@ pub fn worked_cells(hour: WorkedHour) -> [PlainCell; 2]
         WorkedHour::Traded => [metered_cell(1_000, 900), metered_cell(-1_000, -1_050)],
         WorkedHour::Corrected => [metered_cell(1_000, 900), metered_cell(-1_000, -1_000)],
         WorkedHour::Unmetered => {
-            let delivers = PlainCell { position: 0, regulating: 100, tenths: 200_000, metered: true, reading: 0, last: 0 };
+            let delivers = PlainCell {
+                position: 0,
+                regulating: 100,
+                tenths: 200_000,
+                metered: true,
+                reading: 0,
+                last: 0,
+            };
             [delivers, metered_cell(0, 0)]
         }
     }
