@@ -66,15 +66,15 @@ picks i b v [] = inr (refl, λ k. omega arith)
 picks i b v (x ∷ xs) =
     cond-both (ltb v x) _ _ (Picked i b v (x ∷ xs))
     (λ t. let lt : v < x = ltb-true v x t in
-      ⊎-elim
-      (λ f. inl (found-later i v x x xs _ (omega arith) (omega arith) f))
-      (λ n. inl (found-here i v x xs _ lt (n .0) (n .1)))
-      (picks (i + 1) i x xs))
+    ⊎-elim
+    (λ f. inl (found-later i v x x xs _ (omega arith) (omega arith) f))
+    (λ n. inl (found-here i v x xs _ lt (n .0) (n .1)))
+    (picks (i + 1) i x xs))
     (λ t. let le : x ≤ v = ltb-false v x t in
-      ⊎-elim
-      (λ f. inl (found-later i v v x xs _ (omega arith) (omega arith) f))
-      (λ n. inr (n .0, at-head-or-later (λ k. getD (x ∷ xs) k 0 ≤ v) le (n .1)))
-      (picks (i + 1) b v xs))
+    ⊎-elim
+    (λ f. inl (found-later i v v x xs _ (omega arith) (omega arith) f))
+    (λ n. inr (n .0, at-head-or-later (λ k. getD (x ∷ xs) k 0 ≤ v) le (n .1)))
+    (picks (i + 1) b v xs))
 
 no-sum : (xs : List ℕ) → ((k : ℕ) → getD xs k 0 ≤ 0) → sumN xs ≡ 0
 no-sum [] h = refl
@@ -96,9 +96,9 @@ largest-is xs h =
       inside = omega (arith, f .to);
       some = omega (arith, f .above);
       ahead = λ k d. ⊎-elim
-        (λ lt. inl (omega (arith, f .first k (omega arith))))
-        (λ ge. ⊎-elim (λ l. inl l) (λ g. inr (omega (arith, f .most k), omega arith)) (cases-lt (getD xs k 0) (getD xs r 0)))
-        (cases-lt k r);
+          (λ lt. inl (omega (arith, f .first k (omega arith))))
+          (λ ge. ⊎-elim (λ l. inl l) (λ g. inr (omega (arith, f .most k), omega arith)) (cases-lt (getD xs k 0) (getD xs r 0)))
+          (cases-lt k r);
     })
     (λ n. absurd (not-suc-le-zero {n = 0} (omega (arith, no-sum xs (n .1)))))
     (picks 0 0 0 xs)
@@ -129,9 +129,9 @@ enough-next l W rs qs i y h e = record {
   even = length-set rs i 0 ∙ e .even ∙ sym (length-set qs i y);
   sum = omega (arith, sumN-set rs i 0 h, e .each i, e .sum);
   each = λ k. ⊎-elim
-    (λ s. subst (λ (j : ℕ). getD (set rs i 0) j 0 < W) (sym s) (omega (arith, getD-set-same rs i 0 0 h, e .each i)))
-    (λ d. subst (λ (x : ℕ). x < W) (sym (getD-set-other rs i k 0 0 d)) (e .each k))
-    (cases-eq k i);
+      (λ s. subst (λ (j : ℕ). getD (set rs i 0) j 0 < W) (sym s) (omega (arith, getD-set-same rs i 0 0 h, e .each i)))
+      (λ d. subst (λ (x : ℕ). x < W) (sym (getD-set-other rs i k 0 0 d)) (e .each k))
+      (cases-eq k i);
 }
 
 some-left : (l W : ℕ) (rs qs : List ℕ) → Enough (suc l) W rs qs → 0 < sumN rs
@@ -165,11 +165,11 @@ give-at (suc l) W rs qs e k =
     let ih = give-at l W (set rs i 0) (set qs i y) (enough-next l W rs qs i y (b .inside) e) k in
     ⊎-elim
     (λ s. ⊎-elim
-      (λ a. inr (let z = getD-set-same qs i y 0 hq in let w : getD (set qs i y) k 0 ≡ getD (set qs i y) i 0 = ap (λ j. getD (set qs i y) j 0) s in let v : getD qs k 0 ≡ getD qs i 0 = ap (λ j. getD qs j 0) s in omega arith, subst (λ (j : ℕ). 0 < getD rs j 0) (sym s) (b .some)))
-      (λ a. absurd (not-suc-le-zero {n = 0} (let z = getD-set-same rs i 0 0 (b .inside) in let w : getD (set rs i 0) k 0 ≡ getD (set rs i 0) i 0 = ap (λ j. getD (set rs i 0) j 0) s in omega (arith, a .1))))
-      ih)
+    (λ a. inr (let z = getD-set-same qs i y 0 hq in let w : getD (set qs i y) k 0 ≡ getD (set qs i y) i 0 = ap (λ j. getD (set qs i y) j 0) s in let v : getD qs k 0 ≡ getD qs i 0 = ap (λ j. getD qs j 0) s in omega arith, subst (λ (j : ℕ). 0 < getD rs j 0) (sym s) (b .some)))
+    (λ a. absurd (not-suc-le-zero {n = 0} (let z = getD-set-same rs i 0 0 (b .inside) in let w : getD (set rs i 0) k 0 ≡ getD (set rs i 0) i 0 = ap (λ j. getD (set rs i 0) j 0) s in omega (arith, a .1))))
+    ih)
     (λ d. let q = getD-set-other qs i k y 0 d in let r = getD-set-other rs i k 0 0 d in
-      ⊎-elim (λ a. inl (a ∙ q)) (λ a. inr (omega (arith, a .0), omega (arith, a .1))) ih)
+    ⊎-elim (λ a. inl (a ∙ q)) (λ a. inr (omega (arith, a .0), omega (arith, a .1))) ih)
     (cases-eq k i)
 
 -- the largest gets its haler at once, and keeps it
@@ -190,20 +190,20 @@ give-order (suc l) W rs qs e j k p u =
     let y = getD qs i 0 + 1 in
     let g = give-largest l W rs qs e in
     let away : k ≡ i → ⊥ = λ s.
-      let v : getD (give (suc l) rs qs) k 0 ≡ getD (give (suc l) rs qs) i 0 = ap (λ n. getD (give (suc l) rs qs) n 0) s in
-      let w : getD qs k 0 ≡ getD qs i 0 = ap (λ n. getD qs n 0) s in
-      not-suc-le-zero {n = 0} (omega arith) in
+    let v : getD (give (suc l) rs qs) k 0 ≡ getD (give (suc l) rs qs) i 0 = ap (λ n. getD (give (suc l) rs qs) n 0) s in
+    let w : getD qs k 0 ≡ getD qs i 0 = ap (λ n. getD qs n 0) s in
+    not-suc-le-zero {n = 0} (omega arith) in
     ⊎-elim
     (λ s. subst (λ (n : ℕ). Ahead rs n k) (sym s) (b .ahead k away))
     (λ d.
-      let rj = getD-set-other rs i j 0 0 d in
-      let rk = getD-set-other rs i k 0 0 away in
-      let qj = getD-set-other qs i j y 0 d in
-      let qk = getD-set-other qs i k y 0 away in
-      ⊎-elim
-      (λ a. inl (omega arith))
-      (λ a. inr (omega (arith, a .0), a .1))
-      (give-order l W (set rs i 0) (set qs i y) (enough-next l W rs qs i y (b .inside) e) j k (omega arith) (omega arith)))
+    let rj = getD-set-other rs i j 0 0 d in
+    let rk = getD-set-other rs i k 0 0 away in
+    let qj = getD-set-other qs i j y 0 d in
+    let qk = getD-set-other qs i k y 0 away in
+    ⊎-elim
+    (λ a. inl (omega arith))
+    (λ a. inr (omega (arith, a .0), a .1))
+    (give-order l W (set rs i 0) (set qs i y) (enough-next l W rs qs i y (b .inside) e) j k (omega arith) (omega arith)))
     (cases-eq j i)
 
 -- Floors and remainders

@@ -44,9 +44,10 @@ refusal-found ws i h t = at-drop-more weight-refusal ws i (pos 0) h ∙ cond-fal
 
 -- what is refused for no weight, and neither for the remainder nor for the count, is in range
 pub admitted : (n : ℤ) (ws : List ℤ) → natAbs n ≤ 600000000000 → length ws ≤ 20 → weight-refusal ws ≡ None → (refusal n ws ≡ None) × Within n ws
-admitted n ws h l e =
-    ( cond-false (ltb 600000000000 (natAbs n)) _ _ (le-ltb 600000000000 (natAbs n) h) ∙ cond-false (ltb 20 (length ws)) _ _ (le-ltb 20 (length ws) l) ∙ e,
-      record { halers = h; few = l; light = weights-small ws e } )
+admitted n ws h l e = (
+  cond-false (ltb 600000000000 (natAbs n)) _ _ (le-ltb 600000000000 (natAbs n) h) ∙ cond-false (ltb 20 (length ws)) _ _ (le-ltb 20 (length ws) l) ∙ e,
+  record { halers = h; few = l; light = weights-small ws e },
+)
 
 -- Weights as natural numbers
 

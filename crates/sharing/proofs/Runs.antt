@@ -66,22 +66,22 @@ pub running-splits : Splits running-shares
 running-splits = record {
   len = shares-length;
   whole = λ m ws h.
-    let W = sumN ws in
-    let o : m * sumN (take (length ws) ws) / W ≡ m = ap (λ (xs : List ℕ). m * sumN xs / W) (take-all (length ws) ws (omega arith)) ∙ mul-div-cancel m h in
-    first-shares m ws (length ws) (omega arith) ∙ o;
+      let W = sumN ws in
+      let o : m * sumN (take (length ws) ws) / W ≡ m = ap (λ (xs : List ℕ). m * sumN xs / W) (take-all (length ws) ws (omega arith)) ∙ mul-div-cancel m h in
+      first-shares m ws (length ws) (omega arith) ∙ o;
   nothing = λ m ws k h e.
-    let q : m * (sumN (take k ws) + getD ws k 0) / sumN ws ≡ m * sumN (take k ws) / sumN ws = ap (λ n. m * n / sumN ws) (omega arith) in
-    omega (arith, shares-at m ws k h, share-is m ws k h);
+      let q : m * (sumN (take k ws) + getD ws k 0) / sumN ws ≡ m * sumN (take k ws) / sumN ws = ap (λ n. m * n / sumN ws) (omega arith) in
+      omega (arith, shares-at m ws k h, share-is m ws k h);
   fair = λ m ws k p h.
-    let n = near m (sumN ws) (sumN (take k ws)) (getD ws k 0) (running-share m ws k) p (share-is m ws k h) in
-    let e : getD (running-shares m ws) k 0 * sumN ws ≡ running-share m ws k * sumN ws = ap (λ x. x * sumN ws) (shares-at m ws k h) in
-    (omega arith, omega arith);
+      let n = near m (sumN ws) (sumN (take k ws)) (getD ws k 0) (running-share m ws k) p (share-is m ws k h) in
+      let e : getD (running-shares m ws) k 0 * sumN ws ≡ running-share m ws k * sumN ws = ap (λ x. x * sumN ws) (shares-at m ws k h) in
+      (omega arith, omega arith);
   none = λ m ws k e. ⊎-elim
-    (λ lt.
+      (λ lt.
       let a : m * (sumN (take k ws) + getD ws k 0) / sumN ws ≡ m * (sumN (take k ws) + getD ws k 0) / 0 = ap (λ n. m * (sumN (take k ws) + getD ws k 0) / n) e in
       omega (arith, shares-at m ws k lt, share-is m ws k lt, div-zero (m * (sumN (take k ws) + getD ws k 0))))
-    (λ ge. getD-past (running-shares m ws) k 0 (omega (arith, shares-length m ws)))
-    (cases-lt k (length ws));
+      (λ ge. getD-past (running-shares m ws) k 0 (omega (arith, shares-length m ws)))
+      (cases-lt k (length ws));
 }
 
 pub running-lawful : Lawful running

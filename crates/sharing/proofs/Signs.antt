@@ -69,8 +69,8 @@ lawful f s = record {
   whole = λ n ws h. sumZ-signed (below-zero n) (f (natAbs n) ws) ∙ ap (signed (below-zero n)) (s .whole (natAbs n) ws h) ∙ signed-back n;
   nothing = λ n ws k h e. getD-signed (below-zero n) (f (natAbs n) ws) k ∙ ap (signed (below-zero n)) (s .nothing (natAbs n) ws k h e) ∙ signed-zero (below-zero n);
   fair = λ n ws k p h.
-    subst (λ (z : ℤ). natAbs (z *ℤ pos (sumN ws) -ℤ n *ℤ pos (getD ws k 0)) < sumN ws) (sym (getD-signed (below-zero n) (f (natAbs n) ws) k))
-    (fair-signed n (getD (f (natAbs n) ws) k 0) (sumN ws) (getD ws k 0) (s .fair (natAbs n) ws k p h));
+      subst (λ (z : ℤ). natAbs (z *ℤ pos (sumN ws) -ℤ n *ℤ pos (getD ws k 0)) < sumN ws) (sym (getD-signed (below-zero n) (f (natAbs n) ws) k))
+      (fair-signed n (getD (f (natAbs n) ws) k 0) (sumN ws) (getD ws k 0) (s .fair (natAbs n) ws k p h));
   none = λ n ws k e. getD-signed (below-zero n) (f (natAbs n) ws) k ∙ ap (signed (below-zero n)) (s .none (natAbs n) ws k e) ∙ signed-zero (below-zero n);
 }
 

@@ -22,7 +22,12 @@ pub impl Sharing for LargestRemainder as LargestRemainderSharing {
     ghost map = { λ _ n ws. largestRemainder n ws };
 
     // Every part is its floor or one haler more, and who has one more comes before who has not.
-    fn share(&self, remainder: i64, weights: &[i64], parts: &mut [i64; 20]) -> Result<(), SharingRefusal>
+    fn share(
+        &self,
+        remainder: i64,
+        weights: &[i64],
+        parts: &mut [i64; 20],
+    ) -> Result<(), SharingRefusal>
         ensures answer { λ r. ⌜ r ≡ answer (refusal remainder (now (weights .entry))) ⌝ }
         ensures page { λ _. ⌜ now (parts .exit) ≡ afterwards (refusal remainder (now (weights .entry))) (largestRemainder remainder (magnitudes (now (weights .entry)))) (now (parts .entry)) ⌝ }
         ensures serves { λ _. ⌜ (refusal remainder (now (weights .entry)) ≡ None → Serves remainder (magnitudes (now (weights .entry))) (now (parts .exit))) ⌝ }
@@ -41,7 +46,13 @@ fn fill(remainder: i64, weights: &[i64], parts: &mut [i64; 20])
 {
     let kwh = magnitudes(weights);
     let mut shares = [0; 20];
-    fill_by(remainder.unsigned_abs(), remainder < 0, &kwh[0..weights.len()], &mut shares[0..weights.len()], parts);
+    fill_by(
+        remainder.unsigned_abs(),
+        remainder < 0,
+        &kwh[0..weights.len()],
+        &mut shares[0..weights.len()],
+        parts,
+    );
 }
 
 // Fills the page with the parts of m halers under a sign; the shares are room to work in.

@@ -9,13 +9,17 @@ ghost use Rattle.sharing.specs.Laws.{Lawful};
 ghost use Rattle.sharing.specs.Limits.{in-range, refusal, weight-refusal, answer, afterwards, magnitudes, Admits};
 ghost use Rattle.sharing.specs.Rules.{signed};
 ghost use Rattle.units.specs.Sums.{sumN, page};
+
 pub mod largest_remainder;
 pub mod refusal;
 pub mod running;
+
 use refusal::SharingRefusal;
 
 const MOST_HALERS: u64 = 600_000_000_000;
+
 const MOST_WEIGHTS: usize = 20;
+
 const MOST_KWH: i64 = 499_999;
 
 // A sharing rule stands for one map from a remainder in halers and the weights in kWh to their parts.
@@ -26,7 +30,12 @@ pub trait Sharing {
     law lawful: { (s : Self) → Lawful (map s) };
 
     // Fills the page with the parts, 0 past the last weight; a refusal leaves it untouched.
-    fn share(&self, remainder: i64, weights: &[i64], parts: &mut [i64; 20]) -> Result<(), SharingRefusal>
+    fn share(
+        &self,
+        remainder: i64,
+        weights: &[i64],
+        parts: &mut [i64; 20],
+    ) -> Result<(), SharingRefusal>
         ensures answer { λ r. ⌜ r ≡ answer (refusal remainder (now (weights .entry))) ⌝ }
         ensures page { λ _. ⌜ now (parts .exit) ≡ afterwards (refusal remainder (now (weights .entry))) (map (now (self .entry)) remainder (magnitudes (now (weights .entry)))) (now (parts .entry)) ⌝ };
 }
@@ -58,7 +67,9 @@ fn admit(remainder: i64, weights: &[i64]) -> Result<(), SharingRefusal>
         return Err(SharingRefusal::Remainder { halers: remainder });
     }
     if weights.len() > MOST_WEIGHTS {
-        return Err(SharingRefusal::Count { weights: weights.len() as i64 });
+        return Err(SharingRefusal::Count {
+            weights: weights.len() as i64,
+        });
     }
     match weight_refusal(weights) {
         Some(refusal) => Err(refusal),
@@ -121,3 +132,6 @@ fn restore(negative: bool, shares: &[u64], parts: &mut [i64; 20])
         parts[i] = with_sign(negative, shares[i]);
     }
 }
+
+#[cfg(test)]
+mod tests;

@@ -17,7 +17,9 @@ impl SharingRefusal {
         ensures { λ r. ⌜ r ≡ told (now (self .entry)) .number ⌝ }
     {
         match self {
-            SharingRefusal::Remainder { .. } | SharingRefusal::Count { .. } | SharingRefusal::Weight { .. } => 4,
+            SharingRefusal::Remainder { .. }
+            | SharingRefusal::Count { .. }
+            | SharingRefusal::Weight { .. } => 4,
         }
     }
 

@@ -20,7 +20,12 @@ pub struct Running;
 pub impl Sharing for Running as RunningSharing {
     ghost map = { λ _ n ws. running n ws };
 
-    fn share(&self, remainder: i64, weights: &[i64], parts: &mut [i64; 20]) -> Result<(), SharingRefusal> {
+    fn share(
+        &self,
+        remainder: i64,
+        weights: &[i64],
+        parts: &mut [i64; 20],
+    ) -> Result<(), SharingRefusal> {
         admit(remainder, weights)?;
         fill(remainder, weights, parts);
         Ok(())
@@ -34,7 +39,13 @@ fn fill(remainder: i64, weights: &[i64], parts: &mut [i64; 20])
 {
     let kwh = magnitudes(weights);
     let mut shares = [0; 20];
-    fill_by(remainder.unsigned_abs(), remainder < 0, &kwh[0..weights.len()], &mut shares[0..weights.len()], parts);
+    fill_by(
+        remainder.unsigned_abs(),
+        remainder < 0,
+        &kwh[0..weights.len()],
+        &mut shares[0..weights.len()],
+        parts,
+    );
 }
 
 // Fills the page with the parts of m halers under a sign; the shares are room to work in.

@@ -20,7 +20,7 @@ returns c =
     let m = c .args .m in
     record {
       shares = ext-getD 0 _ _ (omega (arith, length-map ws (λ w. m * w / sumN ws)))
-        (λ i h. c .loop-i .inv .0 i (omega arith) ∙ ap (λ n. m * getD ws i 0 / n) (c .pre .whole) ∙ sym (getD-map (λ w. m * w / sumN ws) ws i 0 0 (omega arith)));
+          (λ i h. c .loop-i .inv .0 i (omega arith) ∙ ap (λ n. m * getD ws i 0 / n) (c .pre .whole) ∙ sym (getD-map (λ w. m * w / sumN ws) ws i 0 0 (omega arith)));
       rests = ext-getD 0 _ _ (omega (arith, length-map ws (λ w. m * w % sumN ws)))
-        (λ i h. c .loop-i .inv .1 i (omega arith) ∙ ap (λ n. m * getD ws i 0 % n) (c .pre .whole) ∙ sym (getD-map (λ w. m * w % sumN ws) ws i 0 0 (omega arith)));
+          (λ i h. c .loop-i .inv .1 i (omega arith) ∙ ap (λ n. m * getD ws i 0 % n) (c .pre .whole) ∙ sym (getD-map (λ w. m * w % sumN ws) ws i 0 0 (omega arith)));
     }

@@ -16,8 +16,9 @@ loop-i-again c =
     let b = c .loop-i .place in
     let v = c .loop-i .most in
     elim (c .if-numbers-i .came) [
-      then-numbers-i w ↦ c .loop-i .inv ∙ pick-this xs i b v (c .loop-i-test .taken) (omega (arith, w .if-numbers-i .taken)) ∙ ap (λ k. pick (i + 1) k (getD xs i 0) (drop (i + 1) xs)) (sym (w .place-is)) ∙ ap (λ k. pick (i + 1) (c .if-numbers-i .place) k (drop (i + 1) xs)) (sym (w .most-is))
-    | else-numbers-i w ↦ c .loop-i .inv ∙ pick-before xs i b v (c .loop-i-test .taken) (omega (arith, w .if-numbers-i .left)) ∙ ap (λ k. pick (i + 1) k v (drop (i + 1) xs)) (sym (w .place-is)) ∙ ap (λ k. pick (i + 1) (c .if-numbers-i .place) k (drop (i + 1) xs)) (sym (w .most-is)) ]
+      | then-numbers-i w ↦ c .loop-i .inv ∙ pick-this xs i b v (c .loop-i-test .taken) (omega (arith, w .if-numbers-i .taken)) ∙ ap (λ k. pick (i + 1) k (getD xs i 0) (drop (i + 1) xs)) (sym (w .place-is)) ∙ ap (λ k. pick (i + 1) (c .if-numbers-i .place) k (drop (i + 1) xs)) (sym (w .most-is))
+      | else-numbers-i w ↦ c .loop-i .inv ∙ pick-before xs i b v (c .loop-i-test .taken) (omega (arith, w .if-numbers-i .left)) ∙ ap (λ k. pick (i + 1) k v (drop (i + 1) xs)) (sym (w .place-is)) ∙ ap (λ k. pick (i + 1) (c .if-numbers-i .place) k (drop (i + 1) xs)) (sym (w .most-is))
+    ]
 
 pub returns : need.returns
 returns c = sym (c .loop-i .inv ∙ at-drop-all (pick (c .loop-i .i) (c .loop-i .place) (c .loop-i .most)) (c .args .numbers .now) (c .loop-i .i) (c .loop-i-test .left))

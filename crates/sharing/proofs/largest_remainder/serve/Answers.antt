@@ -32,6 +32,7 @@ loop-left-again c =
     let qs = c .loop-left .shares in
     let l = c .loop-left .left in
     let i = c .place-of-largest-i .result in
-    let h : i < length qs = omega (arith, largest-inside rs (omega arith), c .place-of-largest-i .ensures) in
-    ( ap (λ k. give (l - 1) (set rs k 0) (set qs k (getD qs k 0 + 1))) (c .place-of-largest-i .ensures) ∙ sym (give-more l rs qs (omega arith)) ∙ c .loop-left .inv .0,
-      omega (arith, sumN-set qs i (getD qs i 0 + 1) h, c .loop-left .inv .1) )
+    let h : i < length qs = omega (arith, largest-inside rs (omega arith), c .place-of-largest-i .ensures) in (
+      ap (λ k. give (l - 1) (set rs k 0) (set qs k (getD qs k 0 + 1))) (c .place-of-largest-i .ensures) ∙ sym (give-more l rs qs (omega arith)) ∙ c .loop-left .inv .0,
+      omega (arith, sumN-set qs i (getD qs i 0 + 1) h, c .loop-left .inv .1),
+    )

@@ -44,12 +44,13 @@ loop-i-again c =
     let h : c .floor-high .result ≡ m * sumN (take (i + 1) ws) / c .args .total = c .floor-high .ensures .value ∙ ap (λ n. m * n / c .args .total) u in
     let hs : m * sumN (take (i + 1) ws) / c .args .total ≡ m * sumN (take (i + 1) ws) / sumN ws = ap (λ n. m * sumN (take (i + 1) ws) / n) (c .pre .whole) in
     let ls : m * sumN (take i ws) / c .args .total ≡ m * sumN (take i ws) / sumN ws = ap (λ n. m * sumN (take i ws) / n) (c .pre .whole) in
-    let p : c .floor-high .result - c .loop-i .low ≡ running-share m ws i = omega arith in
-    ( u,
+    let p : c .floor-high .result - c .loop-i .low ≡ running-share m ws i = omega arith in (
+      u,
       h,
       below-more _ _
-        (λ k b. getD-set-other (c .loop-i .shares) i k _ 0 (omega arith) ∙ c .loop-i .inv .2 k b)
-        (getD-set-same (c .loop-i .shares) i _ 0 l ∙ p) )
+          (λ k b. getD-set-other (c .loop-i .shares) i k _ 0 (omega arith) ∙ c .loop-i .inv .2 k b)
+          (getD-set-same (c .loop-i .shares) i _ 0 l ∙ p),
+    )
 
 pub returns : need.returns
 returns c =
