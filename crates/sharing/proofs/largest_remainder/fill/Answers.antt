@@ -13,7 +13,7 @@ use Rattle.std.proofs.shelf.Signed.{ints, toZ-ofZ}
 use Rattle.units.specs.Sums.{page}
 use Rattle.sharing.specs.Limits.{magnitudes, Light}
 use Rattle.sharing.specs.Rules.{largest-shares, largestRemainder}
-use Rattle.sharing.proofs.Leftovers.{serves-page}
+use Rattle.sharing.proofs.Ranks.{serves-page}
 use Rattle.sharing.proofs.Ranges.{light}
 use Rattle.sharing.proofs.Signs.{restored, sign-is}
 use Rattle.sharing.proofs.largest_remainder.fill.Needs as need

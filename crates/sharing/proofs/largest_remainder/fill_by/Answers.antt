@@ -8,7 +8,7 @@ use lib.IntN.{ℤ}
 use lib.ListN.{length}
 use Rattle.units.specs.Sums.{sumN, page}
 use Rattle.sharing.specs.Rules.{signed, largest-shares}
-use Rattle.sharing.proofs.Leftovers.{largest-splits}
+use Rattle.sharing.proofs.Ranks.{largest-splits}
 use Rattle.sharing.proofs.Signs.{splits-within}
 use Rattle.sharing.proofs.largest_remainder.fill_by.Needs as need
 
