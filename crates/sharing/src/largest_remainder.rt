@@ -57,12 +57,13 @@ fn fill(remainder: i64, weights: &[i64], parts: &mut [i64; 20])
     );
 }
 
-// Fills the page with the parts of m halers under a sign; the shares are room to work in.
+// Fills the page with the parts of m halers under a sign, and the room for shares with their magnitudes.
 fn fill_by(m: u64, negative: bool, weights: &[u64], shares: &mut [u64], parts: &mut [i64; 20])
     requires halers { ⌜ m ≤ 600000000000 ⌝ }
     requires light { ⌜ Light (now weights) ⌝ }
     requires clear { ⌜ now shares ≡ replicate (length (now weights)) 0 ⌝ }
-    ensures { λ _. ⌜ now (parts .exit) ≡ page (map (signed negative) (largest-shares m (now (weights .entry)))) ⌝ }
+    ensures page { λ _. ⌜ now (parts .exit) ≡ page (map (signed negative) (largest-shares m (now (weights .entry)))) ⌝ }
+    ensures shares { λ _. ⌜ now (shares .exit) ≡ largest-shares m (now (weights .entry)) ⌝ }
 {
     split(m, weights, shares);
     restore(negative, shares, parts);
@@ -82,14 +83,15 @@ fn split(m: u64, weights: &[u64], shares: &mut [u64])
     }
 }
 
-// The shares of m halers over a total weight that is not 0; the remainders are room to work in.
+// The shares of m halers, and the remainders, over a total weight that is not 0.
 fn allot(m: u64, weights: &[u64], total: u64, shares: &mut [u64], rests: &mut [u64])
     requires halers { ⌜ m ≤ 600000000000 ⌝ }
     requires whole { ⌜ total ≡ sumN (now weights) ⌝ }
     requires light { ⌜ total ≤ 9999980 ⌝ }
     requires some { ⌜ 1 ≤ total ⌝ }
     requires even { ⌜ length (now shares) ≡ length (now weights) ⌝ ∗ ⌜ length (now rests) ≡ length (now weights) ⌝ }
-    ensures { λ _. ⌜ now (shares .exit) ≡ largest-shares m (now (weights .entry)) ⌝ }
+    ensures shares { λ _. ⌜ now (shares .exit) ≡ largest-shares m (now (weights .entry)) ⌝ }
+    ensures rests { λ _. ⌜ now (rests .exit) ≡ all-rests m (now (weights .entry)) ⌝ }
 {
     divide(m, weights, total, shares, rests);
     serve(m - sum(shares), rests, shares);
@@ -151,7 +153,8 @@ fn place_in_line(rests: &[u64], k: usize) -> u64
 
 // Whether party j comes before party k.
 fn comes_before(rests: &[u64], j: usize, k: usize) -> bool
-    requires { ⌜ j < length (now rests) ⌝ ∗ ⌜ k < length (now rests) ⌝ }
+    requires one { ⌜ j < length (now rests) ⌝ }
+    requires other { ⌜ k < length (now rests) ⌝ }
     ensures { λ r. ⌜ r ≡ before (now (rests .entry)) j k ⌝ }
 {
     rests[k] < rests[j] || rests[j] == rests[k] && j < k

@@ -4,7 +4,7 @@ ghost use mathlib.Core.Path.{_≡_};
 ghost use mathlib.Core.List.{List, map as mapped};
 ghost use Prim.Native.Nat.{ℕ, _+_, _-_, _*_, _/_, _<_, _≤_};
 ghost use lib.IntN.{ℤ, pos, natAbs};
-ghost use lib.ListN.{length, take};
+ghost use lib.ListN.{length, getD, take};
 ghost use Rattle.sharing.specs.Laws.{Lawful};
 ghost use Rattle.sharing.specs.Limits.{in-range, refusal, weight-refusal, answer, afterwards, magnitudes, Admits};
 ghost use Rattle.sharing.specs.Rules.{signed};
@@ -80,7 +80,8 @@ fn admit(remainder: i64, weights: &[i64]) -> Result<(), SharingRefusal>
 // The weights as magnitudes, with 0 past the last.
 fn magnitudes(weights: &[i64]) -> [u64; 20]
     requires { ⌜ length (now weights) ≤ 20 ⌝ }
-    ensures { λ r. ⌜ take (length (now (weights .entry))) r ≡ magnitudes (now (weights .entry)) ⌝ }
+    ensures weights { λ r. ⌜ take (length (now (weights .entry))) r ≡ magnitudes (now (weights .entry)) ⌝ }
+    ensures past { λ r. ⌜ ((k : ℕ) → length (now (weights .entry)) ≤ k → getD r k 0 ≡ 0) ⌝ }
 {
     let mut kwh = [0; 20];
     for i in 0..weights.len() {

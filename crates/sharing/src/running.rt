@@ -48,12 +48,13 @@ fn fill(remainder: i64, weights: &[i64], parts: &mut [i64; 20])
     );
 }
 
-// Fills the page with the parts of m halers under a sign; the shares are room to work in.
+// Fills the page with the parts of m halers under a sign, and the room for shares with their magnitudes.
 fn fill_by(m: u64, negative: bool, weights: &[u64], shares: &mut [u64], parts: &mut [i64; 20])
     requires halers { ⌜ m ≤ 600000000000 ⌝ }
     requires light { ⌜ Light (now weights) ⌝ }
     requires clear { ⌜ now shares ≡ replicate (length (now weights)) 0 ⌝ }
-    ensures { λ _. ⌜ now (parts .exit) ≡ page (map (signed negative) (running-shares m (now (weights .entry)))) ⌝ }
+    ensures page { λ _. ⌜ now (parts .exit) ≡ page (map (signed negative) (running-shares m (now (weights .entry)))) ⌝ }
+    ensures shares { λ _. ⌜ now (shares .exit) ≡ running-shares m (now (weights .entry)) ⌝ }
 {
     split(m, weights, shares);
     restore(negative, shares, parts);

@@ -30,5 +30,8 @@ returns c =
     let ws = c .args .weights .now in
     let qs = c .divide .last .shares in
     let l = m - c .sum .result in
-    allotted m ws qs (c .serve .last .shares) l (omega arith) (c .divide .ensures .shares) (ap (λ n. m - n) (c .sum .ensures)) (omega arith)
-    (λ k b. c .serve .ensures k (omega arith) ∙ ap (λ (rs : List ℕ). getD qs k 0 + cond (ltb (rank rs k) l) 1 0) (c .divide .ensures .rests))
+    record {
+      shares = allotted m ws qs (c .serve .last .shares) l (omega arith) (c .divide .ensures .shares) (ap (λ n. m - n) (c .sum .ensures)) (omega arith)
+          (λ k b. c .serve .ensures k (omega arith) ∙ ap (λ (rs : List ℕ). getD qs k 0 + cond (ltb (rank rs k) l) 1 0) (c .divide .ensures .rests));
+      rests = c .divide .ensures .rests;
+    }
