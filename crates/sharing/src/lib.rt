@@ -2,8 +2,8 @@
 // A sharing rule is a trait; each rule has a file named after it, and what both share stands here.
 ghost use mathlib.Core.Path.{_≡_};
 ghost use mathlib.Core.List.{List, map as mapped};
-ghost use Prim.Native.Nat.{ℕ, _+_, _-_, _*_, _/_, _<_, _≤_};
-ghost use lib.IntN.{ℤ, pos, natAbs};
+ghost use Prim.Native.Nat.{ℕ, _*_, _/_, _≤_};
+ghost use lib.IntN.{ℤ};
 ghost use lib.ListN.{length, getD, take};
 ghost use Rattle.sharing.specs.Laws.{Lawful};
 ghost use Rattle.sharing.specs.Limits.{in-range, refusal, weight-refusal, answer, afterwards, magnitudes, Admits};
@@ -16,6 +16,7 @@ pub mod running;
 
 use refusal::SharingRefusal;
 
+// Within these limits a remainder times the total weight stays below 2^63.
 const MOST_HALERS: u64 = 600_000_000_000;
 
 const MOST_WEIGHTS: usize = 20;

@@ -1,9 +1,9 @@
 // The running rule: every part is the difference of two floors, so that the parts lose nothing.
 ghost use mathlib.Core.List.{map};
 ghost use mathlib.Core.Path.{_≡_};
-ghost use Prim.Native.Nat.{ℕ, _≤_};
+ghost use Prim.Native.Nat.{_≤_};
 ghost use lib.ListN.{length, replicate};
-ghost use Rattle.sharing.specs.Limits.{refusal, answer, afterwards, magnitudes, Within, Light};
+ghost use Rattle.sharing.specs.Limits.{magnitudes, Within, Light};
 ghost use Rattle.sharing.specs.Rules.{signed, running, running-shares};
 ghost use Rattle.units.specs.Sums.{sumN, page};
 use super::Sharing;
