@@ -1,22 +1,42 @@
--- The largest remainder rule keeps the laws, and serves the largest remainders. Assumes nothing.
+-- Halers handed out one by one to the largest remainders: a way of counting, by which the largest remainder rule is shown to keep the laws. Assumes nothing.
 use Prim.Native.Nat.{ℕ, zero, suc, _+_, _-_, _*_, _/_, _%_, _≤_, _<_}
 use native.Mathlib.Omega.{arith}
 use native.Mathlib.Nat.{not-suc-le-zero, div-zero, div-add-mod', mul-zero, zero-div, zero-mod, le-of-mul-le-mul-right}
 use lib.Dec.{ltb}
-use lib.IntN.{ℤ, pos, natAbs}
-use lib.ListN.{length, getD, set, drop, length-set, length-map}
+use lib.ListN.{length, getD, set, length-set, length-map}
 use mathlib.Core.Bool.{Bool, true, false, cond}
 use mathlib.Core.List.{List, [], _∷_, map}
 use mathlib.Core.Logic.{_⊎_, inl, inr, ⊎-elim}
 use mathlib.Core.Path.{_≡_, refl, sym, ap, subst, _∙_}
 use Rattle.std.proofs.shelf.Bits.{mod-below}
-use Rattle.std.proofs.shelf.Lists.{getD-set-same, getD-set-other, getD-map, at-drop-more}
-use Rattle.std.proofs.shelf.Tests.{cond-both, cond-true, cond-false, lt-ltb, le-ltb, ltb-true, ltb-false, cases-eq, cases-lt}
-use Rattle.units.specs.Sums.{sumN, page}
-use Rattle.units.proofs.Summing.{page-inside}
-use Rattle.sharing.specs.Laws.{Lawful}
-use Rattle.sharing.specs.Rules.{pick, largest, give, floors, rests, leftover, largest-shares, largestRemainder, signed, below-zero, Ahead, Serves}
-use Rattle.sharing.proofs.Signs.{Splits, lawful, getD-signed, signed-same}
+use Rattle.std.proofs.shelf.Lists.{getD-set-same, getD-set-other, getD-map}
+use Rattle.std.proofs.shelf.Tests.{cond-both, cond-true, lt-ltb, ltb-true, ltb-false, cases-eq, cases-lt}
+use Rattle.units.specs.Sums.{sumN}
+use Rattle.sharing.specs.Rules.{floors, rests, leftover}
+use Rattle.sharing.proofs.Signs.{Splits}
+
+-- Handing out
+
+-- the place of the largest number above v, the first among equals, or b if there is none; i is the place of the list's first number
+abbrev pick : ℕ → ℕ → ℕ → List ℕ → ℕ
+pick i b v [] = b
+pick i b v (x ∷ xs) = cond (ltb v x) (pick (i + 1) i x xs) (pick (i + 1) b v xs)
+
+-- the place of the largest number, the first among equals
+abbrev largest : List ℕ → ℕ
+largest xs = pick 0 0 0 xs
+
+-- l halers go one each to the largest remainders rs, on top of the shares qs; who is served has no remainder left
+abbrev pub give : ℕ → List ℕ → List ℕ → List ℕ
+give zero rs qs = qs
+give (suc l) rs qs = give l (set rs (largest rs) 0) (set qs (largest rs) (getD qs (largest rs) 0 + 1))
+
+abbrev pub handed : ℕ → List ℕ → List ℕ
+handed m ws = give (leftover m ws) (rests m ws) (floors m ws)
+
+-- party j comes before party k, as one of two facts
+abbrev pub Ahead : List ℕ → ℕ → ℕ → Type 0
+Ahead rs j k = (getD rs k 0 < getD rs j 0) ⊎ ((getD rs k 0 ≡ getD rs j 0) × (j < k))
 
 -- The largest number of a list
 
@@ -103,26 +123,18 @@ largest-is xs h =
     (λ n. absurd (not-suc-le-zero {n = 0} (omega (arith, no-sum xs (n .1)))))
     (picks 0 0 0 xs)
 
--- the largest is a place of any list but the empty one
-pub largest-inside : (xs : List ℕ) → 0 < length xs → largest xs < length xs
-largest-inside xs h = ⊎-elim (λ f. omega (arith, f .to)) (λ n. omega (arith, n .0)) (picks 0 0 0 xs)
-
 -- Halers given one by one
 
-pub sumN-set : (xs : List ℕ) (i y : ℕ) → i < length xs → sumN (set xs i y) + getD xs i 0 ≡ sumN xs + y
+sumN-set : (xs : List ℕ) (i y : ℕ) → i < length xs → sumN (set xs i y) + getD xs i 0 ≡ sumN xs + y
 sumN-set [] i y h = absurd (not-suc-le-zero h)
 sumN-set (x ∷ xs) zero y h = omega arith
 sumN-set (x ∷ xs) (suc i) y h = omega (arith, sumN-set xs i y (omega arith))
 
-pub give-more : (l : ℕ) (rs qs : List ℕ) → 0 < l → give l rs qs ≡ give (l - 1) (set rs (largest rs) 0) (set qs (largest rs) (getD qs (largest rs) 0 + 1))
-give-more zero rs qs h = absurd (not-suc-le-zero h)
-give-more (suc l) rs qs h = let e : l ≡ suc l - 1 = omega arith in ap (λ n. give n (set rs (largest rs) 0) (set qs (largest rs) (getD qs (largest rs) 0 + 1))) e
-
 -- enough is left for l halers, each remainder being below W
-record Enough (l W : ℕ) (rs qs : List ℕ) : Type 0 where
-  even : length rs ≡ length qs
-  sum : l * W ≤ sumN rs
-  each : (k : ℕ) → getD rs k 0 < W
+pub record Enough (l W : ℕ) (rs qs : List ℕ) : Type 0 where
+  pub even : length rs ≡ length qs
+  pub sum : l * W ≤ sumN rs
+  pub each : (k : ℕ) → getD rs k 0 < W
 
 enough-next : (l W : ℕ) (rs qs : List ℕ) (i y : ℕ) → i < length rs → Enough (suc l) W rs qs → Enough l W (set rs i 0) (set qs i y)
 enough-next l W rs qs i y h e = record {
@@ -137,11 +149,11 @@ enough-next l W rs qs i y h e = record {
 some-left : (l W : ℕ) (rs qs : List ℕ) → Enough (suc l) W rs qs → 0 < sumN rs
 some-left l W rs qs e = omega (arith, e .sum, e .each 0)
 
-give-length : (l : ℕ) (rs qs : List ℕ) → length (give l rs qs) ≡ length qs
+pub give-length : (l : ℕ) (rs qs : List ℕ) → length (give l rs qs) ≡ length qs
 give-length zero rs qs = refl
 give-length (suc l) rs qs = give-length l _ _ ∙ length-set qs (largest rs) _
 
-give-sum : (l W : ℕ) (rs qs : List ℕ) → Enough l W rs qs → sumN (give l rs qs) ≡ sumN qs + l
+pub give-sum : (l W : ℕ) (rs qs : List ℕ) → Enough l W rs qs → sumN (give l rs qs) ≡ sumN qs + l
 give-sum zero W rs qs e = omega arith
 give-sum (suc l) W rs qs e =
     let b = largest-is rs (some-left l W rs qs e) in
@@ -152,10 +164,10 @@ give-sum (suc l) W rs qs e =
     omega arith
 
 -- each place has what it had, or one more if it had a remainder
-abbrev Served : ℕ → ℕ → ℕ → Type 0
+abbrev pub Served : ℕ → ℕ → ℕ → Type 0
 Served q r x = (x ≡ q) ⊎ ((x ≡ q + 1) × (0 < r))
 
-give-at : (l W : ℕ) (rs qs : List ℕ) → Enough l W rs qs → (k : ℕ) → Served (getD qs k 0) (getD rs k 0) (getD (give l rs qs) k 0)
+pub give-at : (l W : ℕ) (rs qs : List ℕ) → Enough l W rs qs → (k : ℕ) → Served (getD qs k 0) (getD rs k 0) (getD (give l rs qs) k 0)
 give-at zero W rs qs e k = inl refl
 give-at (suc l) W rs qs e k =
     let b = largest-is rs (some-left l W rs qs e) in
@@ -182,7 +194,7 @@ give-largest l W rs qs e =
     ⊎-elim (λ a. omega arith) (λ a. omega (arith, a .0)) (give-at l W (set rs i 0) (set qs i y) (enough-next l W rs qs i y (b .inside) e) i)
 
 -- who got one more comes before who did not
-give-order : (l W : ℕ) (rs qs : List ℕ) → Enough l W rs qs → (j k : ℕ) → getD (give l rs qs) j 0 ≡ getD qs j 0 + 1 → getD (give l rs qs) k 0 ≡ getD qs k 0 → Ahead rs j k
+pub give-order : (l W : ℕ) (rs qs : List ℕ) → Enough l W rs qs → (j k : ℕ) → getD (give l rs qs) j 0 ≡ getD qs j 0 + 1 → getD (give l rs qs) k 0 ≡ getD qs k 0 → Ahead rs j k
 give-order zero W rs qs e j k p u = absurd (not-suc-le-zero {n = 0} (omega arith))
 give-order (suc l) W rs qs e j k p u =
     let b = largest-is rs (some-left l W rs qs e) in
@@ -225,7 +237,7 @@ floors-sum m ws p = let e = divided m (sumN ws) ws in le-of-mul-le-mul-right {k 
 pub leftover-is : (m : ℕ) (ws : List ℕ) → 0 < sumN ws → leftover m ws ≡ m - sumN (floors m ws)
 leftover-is m ws p = cond-true (ltb 0 (sumN ws)) _ _ (lt-ltb 0 (sumN ws) p)
 
-enough : (m : ℕ) (ws : List ℕ) → 0 < sumN ws → Enough (leftover m ws) (sumN ws) (rests m ws) (floors m ws)
+pub enough : (m : ℕ) (ws : List ℕ) → 0 < sumN ws → Enough (leftover m ws) (sumN ws) (rests m ws) (floors m ws)
 enough m ws p =
     let W = sumN ws in
     let Q = sumN (floors m ws) in
@@ -245,7 +257,7 @@ floors-at m ws k h = getD-map (λ w. m * w / sumN ws) ws k 0 0 h
 rests-at : (m : ℕ) (ws : List ℕ) (k : ℕ) → k < length ws → getD (rests m ws) k 0 ≡ m * getD ws k 0 % sumN ws
 rests-at m ws k h = getD-map (λ w. m * w % sumN ws) ws k 0 0 h
 
-no-weight : (m : ℕ) (ws : List ℕ) → sumN ws ≡ 0 → largest-shares m ws ≡ floors m ws
+pub no-weight : (m : ℕ) (ws : List ℕ) → sumN ws ≡ 0 → handed m ws ≡ floors m ws
 no-weight m ws e = ap (λ l. give l (rests m ws) (floors m ws)) (ap (λ W. cond (ltb 0 W) (m - sumN (floors m ws)) 0) e)
 
 floors-none : (m : ℕ) (us : List ℕ) (k : ℕ) → getD (map (λ w. m * w / 0) us) k 0 ≡ 0
@@ -255,9 +267,9 @@ floors-none m (w ∷ us) (suc k) = floors-none m us k
 
 -- The laws
 
-served-at : (m : ℕ) (ws : List ℕ) (k : ℕ) → 0 < sumN ws → k < length ws → Served (m * getD ws k 0 / sumN ws) (m * getD ws k 0 % sumN ws) (getD (largest-shares m ws) k 0)
+served-at : (m : ℕ) (ws : List ℕ) (k : ℕ) → 0 < sumN ws → k < length ws → Served (m * getD ws k 0 / sumN ws) (m * getD ws k 0 % sumN ws) (getD (handed m ws) k 0)
 served-at m ws k p h =
-    let x = getD (largest-shares m ws) k 0 in
+    let x = getD (handed m ws) k 0 in
     subst (λ (q : ℕ). Served q (m * getD ws k 0 % sumN ws) x) (floors-at m ws k h)
     (subst (λ (r : ℕ). Served (getD (floors m ws) k 0) r x) (rests-at m ws k h) (give-at _ (sumN ws) _ _ (enough m ws p) k))
 
@@ -270,10 +282,10 @@ near-served m W w x p s =
     (λ e. let t : x * W ≡ (m * w / W + 1) * W = ap (λ n. n * W) (e .0) in (omega (arith, e .1), omega (arith, e .1)))
     s
 
-shares-none : (m : ℕ) (ws : List ℕ) (k : ℕ) → sumN ws ≡ 0 → getD (largest-shares m ws) k 0 ≡ 0
+shares-none : (m : ℕ) (ws : List ℕ) (k : ℕ) → sumN ws ≡ 0 → getD (handed m ws) k 0 ≡ 0
 shares-none m ws k e = ap (λ (xs : List ℕ). getD xs k 0) (no-weight m ws e) ∙ ap (λ W. getD (map (λ w. m * w / W) ws) k 0) e ∙ floors-none m ws k
 
-shares-nothing : (m : ℕ) (ws : List ℕ) (k : ℕ) → k < length ws → getD ws k 0 ≡ 0 → getD (largest-shares m ws) k 0 ≡ 0
+shares-nothing : (m : ℕ) (ws : List ℕ) (k : ℕ) → k < length ws → getD ws k 0 ≡ 0 → getD (handed m ws) k 0 ≡ 0
 shares-nothing m ws k h e =
     let W = sumN ws in
     let z : m * getD ws k 0 / W ≡ 0 = ap (λ w. m * w / W) e ∙ ap (λ n. n / W) (mul-zero m) ∙ zero-div W in
@@ -283,54 +295,11 @@ shares-nothing m ws k h e =
     (λ n. shares-none m ws k (omega arith))
     (cases-lt 0 W)
 
-pub largest-splits : Splits largest-shares
-largest-splits = record {
+pub handed-splits : Splits handed
+handed-splits = record {
   len = λ m ws. give-length (leftover m ws) (rests m ws) (floors m ws) ∙ length-map ws (λ w. m * w / sumN ws);
   whole = λ m ws p. omega (arith, give-sum _ _ _ _ (enough m ws p), leftover-is m ws p, floors-sum m ws p);
   nothing = shares-nothing;
   fair = λ m ws k p h. near-served m (sumN ws) (getD ws k 0) _ p (served-at m ws k p h);
   none = shares-none;
 }
-
-pub largest-lawful : Lawful largestRemainder
-largest-lawful = lawful largest-shares largest-splits
-
--- Who is served
-
-serves-shares : (m : ℕ) (ws : List ℕ) (j k : ℕ) → getD (largest-shares m ws) j 0 ≡ getD (floors m ws) j 0 + 1 → getD (largest-shares m ws) k 0 ≡ getD (floors m ws) k 0 → Ahead (rests m ws) j k
-serves-shares m ws j k p u =
-    ⊎-elim
-    (λ h. give-order _ (sumN ws) _ _ (enough m ws h) j k p u)
-    (λ z. let e : getD (largest-shares m ws) j 0 ≡ getD (floors m ws) j 0 = ap (λ (xs : List ℕ). getD xs j 0) (no-weight m ws (omega arith)) in absurd (not-suc-le-zero {n = 0} (omega arith)))
-    (cases-lt 0 (sumN ws))
-
-floor-or-more : (m : ℕ) (ws : List ℕ) (k : ℕ) → (getD (largest-shares m ws) k 0 ≡ getD (floors m ws) k 0) ⊎ (getD (largest-shares m ws) k 0 ≡ getD (floors m ws) k 0 + 1)
-floor-or-more m ws k =
-    ⊎-elim
-    (λ h. ⊎-elim (λ a. inl a) (λ a. inr (a .0)) (give-at _ (sumN ws) _ _ (enough m ws h) k))
-    (λ z. inl (ap (λ (xs : List ℕ). getD xs k 0) (no-weight m ws (omega arith))))
-    (cases-lt 0 (sumN ws))
-
--- parts that are those of the rule serve the largest remainders
-serves : (n : ℤ) (ws : List ℕ) (ps : List ℤ) → ((k : ℕ) → k < length ws → getD ps k (pos 0) ≡ getD (largestRemainder n ws) k (pos 0)) → Serves n ws ps
-serves n ws ps same =
-    let m = natAbs n in
-    let b = below-zero n in
-    let xs = largest-shares m ws in
-    let at : (k : ℕ) → k < length ws → getD ps k (pos 0) ≡ signed b (getD xs k 0) = λ k h. same k h ∙ getD-signed b xs k in
-    record {
-      each = λ k h. ⊎-elim (λ e. inl (at k h ∙ ap (signed b) e)) (λ e. inr (at k h ∙ ap (signed b) e)) (floor-or-more m ws k);
-      order = λ j k hj hk p u. serves-shares m ws j k (signed-same b _ _ (sym (at j hj) ∙ p)) (signed-same b _ _ (sym (at k hk) ∙ u));
-    }
-
--- the same of the page
-pub serves-page : (n : ℤ) (ws : List ℕ) (ps : List ℤ) → ps ≡ page (largestRemainder n ws) → Serves n ws ps
-serves-page n ws ps e = serves n ws ps (λ k h. ap (λ (xs : List ℤ). getD xs k (pos 0)) e ∙ page-inside (largestRemainder n ws) k (omega (arith, largest-lawful .len n ws)))
-
--- The search for the largest, one step on
-
-pub pick-this : (xs : List ℕ) (i b v : ℕ) → i < length xs → v < getD xs i 0 → pick i b v (drop i xs) ≡ pick (i + 1) i (getD xs i 0) (drop (i + 1) xs)
-pick-this xs i b v h lt = at-drop-more (pick i b v) xs i 0 h ∙ cond-true (ltb v (getD xs i 0)) _ _ (lt-ltb v (getD xs i 0) lt)
-
-pub pick-before : (xs : List ℕ) (i b v : ℕ) → i < length xs → getD xs i 0 ≤ v → pick i b v (drop i xs) ≡ pick (i + 1) b v (drop (i + 1) xs)
-pick-before xs i b v h le = at-drop-more (pick i b v) xs i 0 h ∙ cond-false (ltb v (getD xs i 0)) _ _ (le-ltb v (getD xs i 0) le)

@@ -13,8 +13,8 @@ use Rattle.std.specs.declared.option.Option.the-variants.{Some, None}
 use Rattle.std.proofs.shelf.Lists.{getD-map, at-drop-more}
 use Rattle.std.proofs.shelf.Signed.{ints}
 use Rattle.std.proofs.shelf.Tests.{cond-true, cond-false, le-ltb, le-leb, and-from}
-use Rattle.units.specs.Sums.{sumN}
-use Rattle.sharing.specs.Limits.{in-range, weight-refusal, refusal, Within, Light, magnitudes}
+use Rattle.units.specs.Sums.{sumN, page}
+use Rattle.sharing.specs.Limits.{in-range, weight-refusal, refusal, afterwards, Within, Light, magnitudes}
 use Rattle.sharing.specs.declared.refusal.SharingRefusal.{SharingRefusal}
 use Rattle.sharing.specs.declared.refusal.SharingRefusal.the-variants.{Weight}
 
@@ -48,6 +48,10 @@ admitted n ws h l e = (
   cond-false (ltb 600000000000 (natAbs n)) _ _ (le-ltb 600000000000 (natAbs n) h) ∙ cond-false (ltb 20 (length ws)) _ _ (le-ltb 20 (length ws) l) ∙ e,
   record { halers = h; few = l; light = weights-small ws e },
 )
+
+-- what is not refused fills the page
+pub filled : (o : Option SharingRefusal) (xs ps : List ℤ) → o ≡ None → afterwards o xs ps ≡ page xs
+filled o xs ps e = ap (λ (r : Option SharingRefusal). afterwards r xs ps) e
 
 -- Weights as natural numbers
 

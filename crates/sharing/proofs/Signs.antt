@@ -101,6 +101,12 @@ splits-within f s m ws = ⊎-elim
 pub restored : (f : ℕ → List ℕ → List ℕ) (n : ℤ) (m : ℕ) (b : Bool) (us ws : List ℕ) → b ≡ below-zero n → m ≡ natAbs n → us ≡ ws → page (map (signed b) (f m us)) ≡ page (by-magnitude f n ws)
 restored f n m b us ws hb hm hu = cc
 
-pub some-weight : (ws : List ℕ) → 0 < sumN ws → 0 < length ws
-some-weight [] h = h
-some-weight (w ∷ ws) h = omega arith
+-- two rules with the same shares keep the same laws
+pub splits-same : (f g : ℕ → List ℕ → List ℕ) → ((m : ℕ) (ws : List ℕ) → f m ws ≡ g m ws) → Splits g → Splits f
+splits-same f g e s = record {
+  len = λ m ws. ap length (e m ws) ∙ s .len m ws;
+  whole = λ m ws h. ap sumN (e m ws) ∙ s .whole m ws h;
+  nothing = λ m ws k h z. ap (λ (xs : List ℕ). getD xs k 0) (e m ws) ∙ s .nothing m ws k h z;
+  fair = λ m ws k p h. subst (λ (xs : List ℕ). (getD xs k 0 * sumN ws < m * getD ws k 0 + sumN ws) × (m * getD ws k 0 < getD xs k 0 * sumN ws + sumN ws)) (sym (e m ws)) (s .fair m ws k p h);
+  none = λ m ws k z. ap (λ (xs : List ℕ). getD xs k 0) (e m ws) ∙ s .none m ws k z;
+}

@@ -4,7 +4,7 @@
 --   told e              the number and the place of a refusal
 --   answer o            what the rule answers, given why it refuses
 --   afterwards o xs ps  the page of parts afterwards: that of xs, or ps as it was
---   Within n ws         the remainder and the weights are in range
+--   Within n ws         the magnitudes of the remainder and the weights are in range
 --   Light ws            the same of weights as natural numbers
 --   Admits n ws r       r admits what is in range, and otherwise tells why not
 use Prim.Native.Nat.{ℕ, _≤_, _<_}

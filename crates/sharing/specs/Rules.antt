@@ -3,14 +3,14 @@
 --   running n ws            the parts of the running rule
 --   largestRemainder n ws   the parts of the largest remainder rule
 --   Serves n ws ps          the parts ps are floors, with one haler more for the largest remainders
-use Prim.Native.Nat.{ℕ, zero, suc, _+_, _-_, _*_, _/_, _%_, _<_}
-use lib.Dec.{ltb}
+use Prim.Native.Nat.{ℕ, _+_, _-_, _*_, _/_, _%_, _<_}
+use lib.Dec.{ltb, eqb}
 use lib.IntN.{ℤ, pos, negsuc, negℤ, natAbs}
-use lib.ListN.{length, getD, set, take}
-use mathlib.Core.List.{List, [], _∷_, map}
+use lib.ListN.{length, getD, take}
+use mathlib.Core.List.{List, map}
 use mathlib.Core.Logic.{_⊎_}
 use mathlib.Core.Path.{_≡_}
-use mathlib.Core.Bool.{Bool, true, false, cond}
+use mathlib.Core.Bool.{Bool, true, false, cond, _&&_, _||_}
 use Rattle.std.specs.Iters.{counting}
 use Rattle.units.specs.Sums.{sumN}
 
@@ -55,33 +55,27 @@ rests m ws = map (λ w. m * w % sumN ws) ws
 abbrev pub leftover : ℕ → List ℕ → ℕ
 leftover m ws = cond (ltb 0 (sumN ws)) (m - sumN (floors m ws)) 0
 
--- the place of the largest number above v, the first among equals, or b if there is none; i is the place of the list's first number
-abbrev pub pick : ℕ → ℕ → ℕ → List ℕ → ℕ
-pick i b v [] = b
-pick i b v (x ∷ xs) = cond (ltb v x) (pick (i + 1) i x xs) (pick (i + 1) b v xs)
+-- party j comes before party k: its remainder in rs is larger, or equal and j is the lower party
+abbrev pub before : List ℕ → ℕ → ℕ → Bool
+before rs j k = ltb (getD rs k 0) (getD rs j 0) || (eqb (getD rs j 0) (getD rs k 0) && ltb j k)
 
--- the place of the largest number, the first among equals
-abbrev pub largest : List ℕ → ℕ
-largest xs = pick 0 0 0 xs
+-- how many parties come before party k
+abbrev pub rank : List ℕ → ℕ → ℕ
+rank rs k = sumN (map (λ j. cond (before rs j k) 1 0) (counting 0 (length rs)))
 
--- l halers go one each to the largest remainders rs, on top of the shares qs; who is served has no remainder left
-abbrev pub give : ℕ → List ℕ → List ℕ → List ℕ
-give zero rs qs = qs
-give (suc l) rs qs = give l (set rs (largest rs) 0) (set qs (largest rs) (getD qs (largest rs) 0 + 1))
+-- party k's share of m halers: its floor, and one haler more if those before it leave one over
+abbrev pub largest-share : ℕ → List ℕ → ℕ → ℕ
+largest-share m ws k = getD (floors m ws) k 0 + cond (ltb (rank (rests m ws) k) (leftover m ws)) 1 0
 
 abbrev pub largest-shares : ℕ → List ℕ → List ℕ
-largest-shares m ws = give (leftover m ws) (rests m ws) (floors m ws)
+largest-shares m ws = map (largest-share m ws) (counting 0 (length ws))
 
 abbrev pub largestRemainder : ℤ → List ℕ → List ℤ
 largestRemainder = by-magnitude largest-shares
 
--- party j comes before party k: its remainder is larger, or equal and j is the lower party
-abbrev pub Ahead : List ℕ → ℕ → ℕ → Type 0
-Ahead rs j k = (getD rs k 0 < getD rs j 0) ⊎ ((getD rs k 0 ≡ getD rs j 0) × (j < k))
-
--- what the rule means, whatever the steps: with the sum that the laws ask for, this leaves no other parts
+-- what the rule means without a count: with the sum that the laws ask for, this leaves no other parts
 pub record Serves (n : ℤ) (ws : List ℕ) (ps : List ℤ) : Type 0 where
   -- every part has the sign of N, and its magnitude is the party's floor or one haler more
   pub each : (k : ℕ) → k < length ws → (getD ps k (pos 0) ≡ signed (below-zero n) (getD (floors (natAbs n) ws) k 0)) ⊎ (getD ps k (pos 0) ≡ signed (below-zero n) (getD (floors (natAbs n) ws) k 0 + 1))
   -- a party with one haler more comes before every party without
-  pub order : (j k : ℕ) → j < length ws → k < length ws → getD ps j (pos 0) ≡ signed (below-zero n) (getD (floors (natAbs n) ws) j 0 + 1) → getD ps k (pos 0) ≡ signed (below-zero n) (getD (floors (natAbs n) ws) k 0) → Ahead (rests (natAbs n) ws) j k
+  pub order : (j k : ℕ) → j < length ws → k < length ws → getD ps j (pos 0) ≡ signed (below-zero n) (getD (floors (natAbs n) ws) j 0 + 1) → getD ps k (pos 0) ≡ signed (below-zero n) (getD (floors (natAbs n) ws) k 0) → before (rests (natAbs n) ws) j k ≡ true

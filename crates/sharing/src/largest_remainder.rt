@@ -1,11 +1,13 @@
 // The largest remainder rule: every party gets its floor, and the halers left over go one each to the largest remainders.
+ghost use mathlib.Core.Bool.{cond};
 ghost use mathlib.Core.List.{map};
 ghost use mathlib.Core.Path.{_≡_};
-ghost use Prim.Native.Nat.{ℕ, _+_, _-_, _*_, _%_, _<_, _≤_};
-ghost use lib.ListN.{length, replicate};
+ghost use Prim.Native.Nat.{ℕ, _+_, _*_, _%_, _<_, _≤_};
+ghost use lib.Dec.{ltb};
+ghost use lib.ListN.{length, getD, replicate};
 ghost use Rattle.std.specs.declared.option.Option.the-variants.{None};
 ghost use Rattle.sharing.specs.Limits.{refusal, answer, afterwards, magnitudes, Within, Light};
-ghost use Rattle.sharing.specs.Rules.{signed, largestRemainder, largest-shares, largest, give, floors, rests as all-rests, Serves};
+ghost use Rattle.sharing.specs.Rules.{signed, largestRemainder, largest-shares, floors, rests as all-rests, before, rank, Serves};
 ghost use Rattle.units.specs.Sums.{sumN, page};
 use super::Sharing;
 use super::admit;
@@ -55,12 +57,13 @@ fn fill(remainder: i64, weights: &[i64], parts: &mut [i64; 20])
     );
 }
 
-// Fills the page with the parts of m halers under a sign; the shares are room to work in.
+// Fills the page with the parts of m halers under a sign, and the room for shares with their magnitudes.
 fn fill_by(m: u64, negative: bool, weights: &[u64], shares: &mut [u64], parts: &mut [i64; 20])
     requires halers { ⌜ m ≤ 600000000000 ⌝ }
     requires light { ⌜ Light (now weights) ⌝ }
     requires clear { ⌜ now shares ≡ replicate (length (now weights)) 0 ⌝ }
-    ensures { λ _. ⌜ now (parts .exit) ≡ page (map (signed negative) (largest-shares m (now (weights .entry)))) ⌝ }
+    ensures page { λ _. ⌜ now (parts .exit) ≡ page (map (signed negative) (largest-shares m (now (weights .entry)))) ⌝ }
+    ensures shares { λ _. ⌜ now (shares .exit) ≡ largest-shares m (now (weights .entry)) ⌝ }
 {
     split(m, weights, shares);
     restore(negative, shares, parts);
@@ -80,14 +83,15 @@ fn split(m: u64, weights: &[u64], shares: &mut [u64])
     }
 }
 
-// The shares of m halers over a total weight that is not 0; the remainders are room to work in.
+// The shares of m halers, and the remainders, over a total weight that is not 0.
 fn allot(m: u64, weights: &[u64], total: u64, shares: &mut [u64], rests: &mut [u64])
     requires halers { ⌜ m ≤ 600000000000 ⌝ }
     requires whole { ⌜ total ≡ sumN (now weights) ⌝ }
     requires light { ⌜ total ≤ 9999980 ⌝ }
     requires some { ⌜ 1 ≤ total ⌝ }
     requires even { ⌜ length (now shares) ≡ length (now weights) ⌝ ∗ ⌜ length (now rests) ≡ length (now weights) ⌝ }
-    ensures { λ _. ⌜ now (shares .exit) ≡ largest-shares m (now (weights .entry)) ⌝ }
+    ensures shares { λ _. ⌜ now (shares .exit) ≡ largest-shares m (now (weights .entry)) ⌝ }
+    ensures rests { λ _. ⌜ now (rests .exit) ≡ all-rests m (now (weights .entry)) ⌝ }
 {
     divide(m, weights, total, shares, rests);
     serve(m - sum(shares), rests, shares);
@@ -120,32 +124,38 @@ fn rest(m: u64, weight: u64, total: u64) -> u64
     m * weight % total
 }
 
-// Gives the halers that are left one each to the largest remainders.
-fn serve(mut left: u64, rests: &mut [u64], shares: &mut [u64])
-    requires some { ⌜ 0 < length (now rests) ⌝ }
+// Gives one haler more to each party that has fewer before it than halers are left.
+fn serve(left: u64, rests: &[u64], shares: &mut [u64])
     requires even { ⌜ length (now rests) ≡ length (now shares) ⌝ }
-    requires halers { ⌜ sumN (now shares) + left ≤ 600000000000 ⌝ }
-    ensures { λ _. ⌜ now (shares .exit) ≡ give left (now (rests .entry)) (now (shares .entry)) ⌝ }
+    requires halers { ⌜ sumN (now shares) ≤ 600000000000 ⌝ }
+    ensures { λ _. ⌜ ((k : ℕ) → k < length (now (shares .entry)) → getD (now (shares .exit)) k 0 ≡ getD (now (shares .entry)) k 0 + cond (ltb (rank (now (rests .entry)) k) left) 1 0) ⌝ }
 {
-    while left > 0 {
-        let i = place_of_largest(rests);
-        rests[i] = 0;
-        shares[i] += 1;
-        left -= 1;
+    for k in 0..shares.len() {
+        if place_in_line(rests, k) < left {
+            shares[k] += 1;
+        }
     }
 }
 
-// The place of the largest number, the first among equals, or 0.
-fn place_of_largest(numbers: &[u64]) -> usize
-    ensures { λ r. ⌜ r ≡ largest (now (numbers .entry)) ⌝ }
+// How many parties come before party k.
+fn place_in_line(rests: &[u64], k: usize) -> u64
+    requires { ⌜ k < length (now rests) ⌝ }
+    ensures { λ r. ⌜ r ≡ rank (now (rests .entry)) k ⌝ }
 {
-    let mut place = 0;
-    let mut most = 0;
-    for i in 0..numbers.len() {
-        if numbers[i] > most {
-            place = i;
-            most = numbers[i];
+    let mut ahead = 0;
+    for j in 0..rests.len() {
+        if comes_before(rests, j, k) {
+            ahead += 1;
         }
     }
-    place
+    ahead
+}
+
+// Whether party j comes before party k.
+fn comes_before(rests: &[u64], j: usize, k: usize) -> bool
+    requires one { ⌜ j < length (now rests) ⌝ }
+    requires other { ⌜ k < length (now rests) ⌝ }
+    ensures { λ r. ⌜ r ≡ before (now (rests .entry)) j k ⌝ }
+{
+    rests[k] < rests[j] || rests[j] == rests[k] && j < k
 }

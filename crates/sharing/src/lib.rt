@@ -2,9 +2,9 @@
 // A sharing rule is a trait; each rule has a file named after it, and what both share stands here.
 ghost use mathlib.Core.Path.{_≡_};
 ghost use mathlib.Core.List.{List, map as mapped};
-ghost use Prim.Native.Nat.{ℕ, _+_, _-_, _*_, _/_, _<_, _≤_};
-ghost use lib.IntN.{ℤ, pos, natAbs};
-ghost use lib.ListN.{length, take};
+ghost use Prim.Native.Nat.{ℕ, _*_, _/_, _≤_};
+ghost use lib.IntN.{ℤ};
+ghost use lib.ListN.{length, getD, take};
 ghost use Rattle.sharing.specs.Laws.{Lawful};
 ghost use Rattle.sharing.specs.Limits.{in-range, refusal, weight-refusal, answer, afterwards, magnitudes, Admits};
 ghost use Rattle.sharing.specs.Rules.{signed};
@@ -16,6 +16,7 @@ pub mod running;
 
 use refusal::SharingRefusal;
 
+// Within these limits a remainder times the total weight stays below 2^63.
 const MOST_HALERS: u64 = 600_000_000_000;
 
 const MOST_WEIGHTS: usize = 20;
@@ -80,7 +81,8 @@ fn admit(remainder: i64, weights: &[i64]) -> Result<(), SharingRefusal>
 // The weights as magnitudes, with 0 past the last.
 fn magnitudes(weights: &[i64]) -> [u64; 20]
     requires { ⌜ length (now weights) ≤ 20 ⌝ }
-    ensures { λ r. ⌜ take (length (now (weights .entry))) r ≡ magnitudes (now (weights .entry)) ⌝ }
+    ensures weights { λ r. ⌜ take (length (now (weights .entry))) r ≡ magnitudes (now (weights .entry)) ⌝ }
+    ensures past { λ r. ⌜ ((k : ℕ) → length (now (weights .entry)) ≤ k → getD r k 0 ≡ 0) ⌝ }
 {
     let mut kwh = [0; 20];
     for i in 0..weights.len() {
@@ -132,3 +134,6 @@ fn restore(negative: bool, shares: &[u64], parts: &mut [i64; 20])
         parts[i] = with_sign(negative, shares[i]);
     }
 }
+
+#[cfg(test)]
+mod tests;

@@ -1,9 +1,9 @@
 // The running rule: every part is the difference of two floors, so that the parts lose nothing.
 ghost use mathlib.Core.List.{map};
 ghost use mathlib.Core.Path.{_≡_};
-ghost use Prim.Native.Nat.{ℕ, _≤_};
+ghost use Prim.Native.Nat.{_≤_};
 ghost use lib.ListN.{length, replicate};
-ghost use Rattle.sharing.specs.Limits.{refusal, answer, afterwards, magnitudes, Within, Light};
+ghost use Rattle.sharing.specs.Limits.{magnitudes, Within, Light};
 ghost use Rattle.sharing.specs.Rules.{signed, running, running-shares};
 ghost use Rattle.units.specs.Sums.{sumN, page};
 use super::Sharing;
@@ -48,12 +48,13 @@ fn fill(remainder: i64, weights: &[i64], parts: &mut [i64; 20])
     );
 }
 
-// Fills the page with the parts of m halers under a sign; the shares are room to work in.
+// Fills the page with the parts of m halers under a sign, and the room for shares with their magnitudes.
 fn fill_by(m: u64, negative: bool, weights: &[u64], shares: &mut [u64], parts: &mut [i64; 20])
     requires halers { ⌜ m ≤ 600000000000 ⌝ }
     requires light { ⌜ Light (now weights) ⌝ }
     requires clear { ⌜ now shares ≡ replicate (length (now weights)) 0 ⌝ }
-    ensures { λ _. ⌜ now (parts .exit) ≡ page (map (signed negative) (running-shares m (now (weights .entry)))) ⌝ }
+    ensures page { λ _. ⌜ now (parts .exit) ≡ page (map (signed negative) (running-shares m (now (weights .entry)))) ⌝ }
+    ensures shares { λ _. ⌜ now (shares .exit) ≡ running-shares m (now (weights .entry)) ⌝ }
 {
     split(m, weights, shares);
     restore(negative, shares, parts);

@@ -13,7 +13,7 @@ use Rattle.std.proofs.shelf.Signed.{ints, toZ-ofZ}
 use Rattle.units.specs.Sums.{page}
 use Rattle.sharing.specs.Limits.{magnitudes, Light}
 use Rattle.sharing.specs.Rules.{largest-shares, largestRemainder}
-use Rattle.sharing.proofs.Leftovers.{serves-page}
+use Rattle.sharing.proofs.Ranks.{serves-page}
 use Rattle.sharing.proofs.Ranges.{light}
 use Rattle.sharing.proofs.Signs.{restored, sign-is}
 use Rattle.sharing.proofs.largest_remainder.fill.Needs as need
@@ -24,7 +24,7 @@ fill-by-requires c κs =
     let ws = c .args .weights .now in
     let kwh = c .magnitudes-kwh .result in
     let z : length ws - 0 ≡ length ws = omega arith in
-    let t : take (length ws - 0) kwh ≡ magnitudes ws = ap (λ k. take k kwh) z ∙ c .magnitudes-kwh .ensures in
+    let t : take (length ws - 0) kwh ≡ magnitudes ws = ap (λ k. take k kwh) z ∙ c .magnitudes-kwh .ensures .weights in
     let l : length ws - 0 ≡ length (take (length ws - 0) kwh) = z ∙ sym (ap length t ∙ length-map ws natAbs) in
     record {
       halers = omega (arith, ints, c .unsigned-abs .ensures .value, c .pre .halers);
@@ -39,6 +39,6 @@ returns c =
     let kwh = c .magnitudes-kwh .result in
     let b : toZ w64 (ofZ w64 n) ≡ n = toZ-ofZ w64 n (c .fits .remainder) in
     let z : length ws - 0 ≡ length ws = omega arith in
-    let t : take (length ws - 0) kwh ≡ magnitudes ws = ap (λ k. take k kwh) z ∙ c .magnitudes-kwh .ensures in
-    let e : c .fill-by .last .parts ≡ page (largestRemainder n (magnitudes ws)) = c .fill-by .ensures ∙ restored largest-shares n (c .unsigned-abs .result) (ltZ (toZ w64 (ofZ w64 n)) (pos 0)) (take (length ws - 0) kwh) (magnitudes ws) (ap (λ (z : ℤ). ltZ z (pos 0)) b ∙ sign-is n) (c .unsigned-abs .ensures .value ∙ ap natAbs b) t in
+    let t : take (length ws - 0) kwh ≡ magnitudes ws = ap (λ k. take k kwh) z ∙ c .magnitudes-kwh .ensures .weights in
+    let e : c .fill-by .last .parts ≡ page (largestRemainder n (magnitudes ws)) = c .fill-by .ensures .page ∙ restored largest-shares n (c .unsigned-abs .result) (ltZ (toZ w64 (ofZ w64 n)) (pos 0)) (take (length ws - 0) kwh) (magnitudes ws) (ap (λ (z : ℤ). ltZ z (pos 0)) b ∙ sign-is n) (c .unsigned-abs .ensures .value ∙ ap natAbs b) t in
     record { page = e; serves = serves-page n (magnitudes ws) _ e }

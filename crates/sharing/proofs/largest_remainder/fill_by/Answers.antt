@@ -8,7 +8,7 @@ use lib.IntN.{ℤ}
 use lib.ListN.{length}
 use Rattle.units.specs.Sums.{sumN, page}
 use Rattle.sharing.specs.Rules.{signed, largest-shares}
-use Rattle.sharing.proofs.Leftovers.{largest-splits}
+use Rattle.sharing.proofs.Ranks.{largest-splits}
 use Rattle.sharing.proofs.Signs.{splits-within}
 use Rattle.sharing.proofs.largest_remainder.fill_by.Needs as need
 
@@ -22,4 +22,4 @@ restore-requires c κs =
     }
 
 pub returns : need.returns
-returns c = c .restore .ensures ∙ ap (λ (xs : List ℕ). page (map (signed (c .args .negative)) xs)) (c .split .ensures)
+returns c = record { page = c .restore .ensures ∙ ap (λ (xs : List ℕ). page (map (signed (c .args .negative)) xs)) (c .split .ensures); shares = c .split .ensures }

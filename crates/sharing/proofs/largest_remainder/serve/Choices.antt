@@ -1,13 +1,12 @@
-use Prim.Native.Nat.{_+_, _≤_}
+use Prim.Native.Nat.{ℕ, _+_, _<_, _≤_}
+use lib.Dec.{ltb}
+use lib.ListN.{getD}
+use mathlib.Core.Bool.{cond}
 use mathlib.Core.Path.{_≡_}
-use Rattle.units.specs.Sums.{sumN}
-use Rattle.sharing.specs.Rules.{give}
+use Rattle.sharing.specs.Rules.{rank}
 use Rattle.sharing.proofs.largest_remainder.serve.Given as given
 
-abbrev pub Inv-loop-left : given.InvT-loop-left
-Inv-loop-left l =
-    (give (l .left) (l .rests) (l .shares) ≡ give (l .entry .left) (l .entry .rests) (l .entry .shares))
-    × (sumN (l .shares) + l .left ≤ 600000000000)
-
-abbrev pub μ-loop-left : given.MeasureT-loop-left
-μ-loop-left l = l .left
+abbrev pub Inv-loop-k : given.InvT-loop-k
+Inv-loop-k l =
+    ((i : ℕ) → i < l .k → getD (l .shares) i 0 ≡ getD (l .entry .shares) i 0 + cond (ltb (rank (l .rests) i) (l .left)) 1 0)
+    × ((i : ℕ) → l .k ≤ i → getD (l .shares) i 0 ≡ getD (l .entry .shares) i 0)

@@ -6,7 +6,7 @@ use mathlib.Core.List.{List}
 use lib.ListN.{length, take, replicate, length-replicate}
 use Rattle.std.proofs.shelf.Lists.{length-take-le}
 use Rattle.sharing.proofs.Ranges.{total-within}
-use Rattle.sharing.proofs.Leftovers.{largest-splits}
+use Rattle.sharing.proofs.Ranks.{largest-splits}
 use Rattle.sharing.proofs.Signs.{all-zero}
 use Rattle.sharing.proofs.largest_remainder.split.Needs as need
 

@@ -22,7 +22,7 @@ fill-by-requires c κs =
     let ws = c .args .weights .now in
     let kwh = c .magnitudes-kwh .result in
     let z : length ws - 0 ≡ length ws = omega arith in
-    let t : take (length ws - 0) kwh ≡ magnitudes ws = ap (λ k. take k kwh) z ∙ c .magnitudes-kwh .ensures in
+    let t : take (length ws - 0) kwh ≡ magnitudes ws = ap (λ k. take k kwh) z ∙ c .magnitudes-kwh .ensures .weights in
     let l : length ws - 0 ≡ length (take (length ws - 0) kwh) = z ∙ sym (ap length t ∙ length-map ws natAbs) in
     record {
       halers = omega (arith, ints, c .unsigned-abs .ensures .value, c .pre .halers);
@@ -37,5 +37,5 @@ returns c =
     let kwh = c .magnitudes-kwh .result in
     let b : toZ w64 (ofZ w64 n) ≡ n = toZ-ofZ w64 n (c .fits .remainder) in
     let z : length ws - 0 ≡ length ws = omega arith in
-    let t : take (length ws - 0) kwh ≡ magnitudes ws = ap (λ k. take k kwh) z ∙ c .magnitudes-kwh .ensures in
-    c .fill-by .ensures ∙ restored running-shares n (c .unsigned-abs .result) (ltZ (toZ w64 (ofZ w64 n)) (pos 0)) (take (length ws - 0) kwh) (magnitudes ws) (ap (λ (z : ℤ). ltZ z (pos 0)) b ∙ sign-is n) (c .unsigned-abs .ensures .value ∙ ap natAbs b) t
+    let t : take (length ws - 0) kwh ≡ magnitudes ws = ap (λ k. take k kwh) z ∙ c .magnitudes-kwh .ensures .weights in
+    c .fill-by .ensures .page ∙ restored running-shares n (c .unsigned-abs .result) (ltZ (toZ w64 (ofZ w64 n)) (pos 0)) (take (length ws - 0) kwh) (magnitudes ws) (ap (λ (z : ℤ). ltZ z (pos 0)) b ∙ sign-is n) (c .unsigned-abs .ensures .value ∙ ap natAbs b) t

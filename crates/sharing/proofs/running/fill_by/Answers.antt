@@ -22,4 +22,4 @@ restore-requires c κs =
     }
 
 pub returns : need.returns
-returns c = c .restore .ensures ∙ ap (λ (xs : List ℕ). page (map (signed (c .args .negative)) xs)) (c .split .ensures)
+returns c = record { page = c .restore .ensures ∙ ap (λ (xs : List ℕ). page (map (signed (c .args .negative)) xs)) (c .split .ensures); shares = c .split .ensures }

@@ -1,4 +1,4 @@
-use Rattle.sharing.proofs.Leftovers.{largest-lawful}
+use Rattle.sharing.proofs.Ranks.{largest-lawful}
 use Rattle.sharing.proofs.largest_remainder.LargestRemainderSharing.the-impl.Needs as need
 
 pub lawful-law : need.lawful-law
