@@ -3,6 +3,7 @@
 mod tests;
 mod writer;
 
+pub use writer::answerable;
 pub use writer::write;
 
 // What the line of a journal is answered.

@@ -5,9 +5,10 @@ ghost use Prim.Native.Nat.{ℕ, _+_, _<_, _≤_, min};
 ghost use lib.ListN.{length, take};
 ghost use lib.Chars.{codes};
 ghost use lib.IntN.{ℤ, pos};
+ghost use Rattle.std.specs.Orderings.{Decides};
 ghost use Rattle.std.specs.Written.{decimal, signed};
 ghost use Rattle.answers.specs.Texts.{fieldText, okText, noText, payText, payLines, operatorText, showText, answerText};
-ghost use Rattle.answers.specs.Writing.{Adds, Room, Writes};
+ghost use Rattle.answers.specs.Writing.{Adds, Room, Answerable, Writes};
 use crate::Answer;
 
 // Every answer fits this many bytes.
@@ -187,12 +188,19 @@ impl<'a> Writer<'a> {
     }
 }
 
+// Whether a line of this number is answered into a buffer of so many bytes.
+pub fn answerable(bytes: usize, line: i64) -> bool
+    ensures { λ r. ⌜ Decides r (Answerable bytes line) ⌝ }
+{
+    bytes >= ANSWER_BYTES && line >= 1 && line <= LAST_LINE
+}
+
 // The answer's text at the buffer's start, and its length; None, with nothing written, where the buffer is under 4,096 bytes or
 // the line's number is outside 1 to 999,999,999.
 pub fn write(out: &mut [u8], line: i64, answer: &Answer) -> Option<usize>
     ensures { λ r. ⌜ Writes (now (out .entry)) line (now (answer .entry)) r (now (out .exit)) ⌝ }
 {
-    if out.len() < ANSWER_BYTES || line < 1 || line > LAST_LINE {
+    if !answerable(out.len(), line) {
         return None;
     }
     let mut writer = Writer {
