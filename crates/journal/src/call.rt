@@ -4,21 +4,37 @@ ghost use Prim.Native.Nat.{ℕ, _<_, _≤_};
 ghost use lib.ListN.{length};
 ghost use Rattle.journal.specs.Told.{toldAs};
 ghost use Rattle.journal.specs.Answered.{Entered, Answered, LineCall};
+use crate::refusal::Refusal;
+use crate::refusal::RefusalFromBrackets;
 use answers::Answer;
 use brackets::BracketFault;
 use brackets::brackets;
-use crate::refusal::Refusal;
-use crate::refusal::RefusalFromBrackets;
 
 // The answer that tells a refusal.
 fn told(refusal: Refusal) -> Answer
     ensures { λ r. ⌜ r ≡ toldAs refusal ⌝ }
 {
     match refusal {
-        Refusal::Brackets(BracketFault::Long) => Answer::Refused { layer: 1, number: 23, place: 201 },
-        Refusal::Brackets(BracketFault::Byte { column }) => Answer::Refused { layer: 1, number: 21, place: i64::from(column) },
-        Refusal::Brackets(BracketFault::Shape { column }) => Answer::Refused { layer: 1, number: 22, place: i64::from(column) },
-        Refusal::NotOpened => Answer::Refused { layer: 3, number: 13, place: 0 },
+        Refusal::Brackets(BracketFault::Long) => Answer::Refused {
+            layer: 1,
+            number: 23,
+            place: 201,
+        },
+        Refusal::Brackets(BracketFault::Byte { column }) => Answer::Refused {
+            layer: 1,
+            number: 21,
+            place: i64::from(column),
+        },
+        Refusal::Brackets(BracketFault::Shape { column }) => Answer::Refused {
+            layer: 1,
+            number: 22,
+            place: i64::from(column),
+        },
+        Refusal::NotOpened => Answer::Refused {
+            layer: 3,
+            number: 13,
+            place: 0,
+        },
     }
 }
 

@@ -1,0 +1,119 @@
+// The input of a journal, taken byte by byte and answered line by line.
+ghost use mathlib.Core.Path.{_≡_};
+ghost use mathlib.Core.List.{List, [], _∷_, _++_};
+ghost use Prim.Native.Nat.{ℕ, _+_, _<_, _≤_};
+ghost use lib.ListN.{length, take};
+ghost use lib.IntN.{ℤ};
+ghost use Rattle.journal.specs.Lines.{kept, Holds, Outcome, Whole, Ran, Runs, Filled};
+use crate::call::answer_line;
+
+// The most bytes that are kept of a line: one more than a line may have.
+const KEPT: usize = 201;
+
+// No line of this number or a higher one is answered, and they are not told apart.
+const PAST_LAST: u32 = 1_000_000_000;
+
+// A line so far: its first bytes.
+#[derive(Drop)]
+struct Line {
+    bytes: [u8; 201],
+    len: usize,
+}
+
+impl Line {
+    fn push(&mut self, byte: u8)
+        ensures { λ _. ⌜ kept (now (self .exit)) ≡ take 201 (kept (now (self .entry)) ++ byte ∷ []) ⌝ }
+    {
+        let at = self.len;
+        if at < KEPT {
+            self.bytes[at] = byte;
+            self.len = at + 1;
+        }
+    }
+
+    fn text(&self) -> &[u8]
+        ensures { λ r. ⌜ now r ≡ kept (now (self .entry)) ⌝ }
+    {
+        &self.bytes[0..self.len.min(KEPT)]
+    }
+}
+
+// An input so far: the line that is going on, and its number.
+#[derive(Drop)]
+pub struct Input {
+    line: Line,
+    number: u32,
+}
+
+impl Input {
+    pub fn new() -> Input
+        ensures { λ r. ⌜ Ran r [] [] ⌝ }
+    {
+        Input {
+            line: Line {
+                bytes: [0; 201],
+                len: 0,
+            },
+            number: 1,
+        }
+    }
+
+    // Takes the next byte of the input. Where it ends a line, the answer is at the buffer's start, and its length is returned.
+    pub fn take(&mut self, out: &mut [u8], byte: u8) -> usize
+        ensures runs { λ r. ⌜ (4096 ≤ length (now (out .entry)) → Runs (now (self .entry)) (byte ∷ []) (take r (now (out .exit))) (now (self .exit))) ⌝ }
+        ensures filled { λ r. ⌜ Filled (now (out .entry)) r (now (out .exit)) ⌝ }
+    {
+        if byte == b'\n' {
+            self.end_line(out)
+        } else {
+            self.go_on(byte);
+            0
+        }
+    }
+
+    // The input has ended: the answer to what follows the last end of a line.
+    pub fn end(self, out: &mut [u8]) -> usize
+        ensures whole { λ r. ⌜ (4096 ≤ length (now (out .entry)) → (input output : List ℕ) → Ran self input output → Whole input (output ++ take r (now (out .exit)))) ⌝ }
+        ensures filled { λ r. ⌜ Filled (now (out .entry)) r (now (out .exit)) ⌝ }
+    {
+        self.answer(out)
+    }
+
+    // The answer to the line as it stands, and its length.
+    fn answer(&self, out: &mut [u8]) -> usize
+        ensures outcome { λ r. ⌜ (4096 ≤ length (now (out .entry)) → (lines : List (List ℕ)) (rest : List ℕ) → Holds (now (self .entry)) lines rest → Outcome (length lines + 1) rest (take r (now (out .exit)))) ⌝ }
+        ensures whole { λ r. ⌜ (4096 ≤ length (now (out .entry)) → (input output : List ℕ) → Ran (now (self .entry)) input output → Whole input (output ++ take r (now (out .exit)))) ⌝ }
+        ensures filled { λ r. ⌜ Filled (now (out .entry)) r (now (out .exit)) ⌝ }
+    {
+        match answer_line(out, i64::from(self.number), self.line.text()) {
+            Some(len) => len,
+            None => 0,
+        }
+    }
+
+    // The next line begins.
+    fn begin_line(&mut self)
+        ensures { λ _. ⌜ ((lines : List (List ℕ)) (rest : List ℕ) → Holds (now (self .entry)) lines rest → Holds (now (self .exit)) (lines ++ rest ∷ []) []) ⌝ }
+    {
+        self.line.len = 0;
+        if self.number < PAST_LAST {
+            self.number += 1;
+        }
+    }
+
+    fn end_line(&mut self, out: &mut [u8]) -> usize
+        ensures runs { λ r. ⌜ (4096 ≤ length (now (out .entry)) → Runs (now (self .entry)) (10 ∷ []) (take r (now (out .exit))) (now (self .exit))) ⌝ }
+        ensures filled { λ r. ⌜ Filled (now (out .entry)) r (now (out .exit)) ⌝ }
+    {
+        let len = self.answer(out);
+        self.begin_line();
+        len
+    }
+
+    fn go_on(&mut self, byte: u8)
+        requires { ⌜ (byte ≡ 10 → ⊥) ⌝ }
+        ensures { λ _. ⌜ Runs (now (self .entry)) (byte ∷ []) [] (now (self .exit)) ⌝ }
+    {
+        self.line.push(byte);
+    }
+}
