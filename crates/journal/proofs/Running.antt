@@ -5,15 +5,15 @@ use Prim.Native.Nat.{ℕ, _+_, _<_, _≤_, min}
 use native.Mathlib.Omega.{arith}
 use native.Mathlib.Nat.{add-zero}
 use lib.IntN.{ℤ, pos}
-use lib.ListN.{length, take, drop}
-use Rattle.std.proofs.shelf.Lists.{take-at}
+use lib.ListN.{length, take, drop, getD}
+use Rattle.std.proofs.shelf.Lists.{take-at, take-all, take-more}
 use Rattle.std.proofs.shelf.Elements.{all-push}
 use Rattle.std.proofs.shelf.Signed.{ints}
 use Rattle.std.specs.declared.option.Option.the-variants.{Some, None}
 use Rattle.answers.specs.Writing.{laid}
 use Rattle.journal.specs.declared.input.Input.{Input}
 use Rattle.journal.specs.Answered.{LineText, LineCall}
-use Rattle.journal.specs.Lines.{Unbroken, ended, Divided, Outcome, Transcript, Whole, kept, Holds, Ran, Filled}
+use Rattle.journal.specs.Lines.{Unbroken, ended, Divided, Outcome, Transcript, Whole, kept, Holds, Ran, Runs, Filled}
 use Rattle.journal.proofs.Keeping.{front-more}
 use Rattle.journal.proofs.Cutting.{text-whole}
 
@@ -103,3 +103,21 @@ ran-line i j text input output o h r =
 pub ran-whole : (i : Input) (text input output : List ℕ) → ((lines : List (List ℕ)) (rest : List ℕ) → Holds i lines rest → Outcome (length lines + 1) rest text) → Ran i input output → Whole input (output ++ text)
 ran-whole i text input output o r =
     (r .lines, r .rest, r .divided, written-more (r .lines) (r .rest) output text (r .written) (o (r .lines) (r .rest) (r .holds)))
+
+-- One run after another
+
+pub runs-none : (i : Input) → Runs i [] [] i
+runs-none i input output r = subst (λ x. Ran i x (output ++ [])) (sym (append-nil input)) (subst (Ran i input) (sym (append-nil output)) r)
+
+runs-runs : {i j k : Input} (more next text last : List ℕ) → Runs i more text j → Runs j next last k → Runs i (more ++ next) (text ++ last) k
+runs-runs {i} {j} {k} more next text last a b input output r =
+    subst (λ x. Ran k x (output ++ (text ++ last))) (append-assoc input more next) (subst (Ran k ((input ++ more) ++ next)) (append-assoc output text last) (b (input ++ more) (output ++ text) (a input output r)))
+
+-- one byte more of a block
+pub runs-more : {i j k : Input} (block : List ℕ) (n : ℕ) (text last : List ℕ) → n < length block → Runs i (take n block) text j → Runs j (getD block n 0 ∷ []) last k → Runs i (take (n + 1) block) (text ++ last) k
+runs-more {i} {j} {k} block n text last h a b =
+    subst (λ x. Runs i x (text ++ last) k) (sym (take-more block n 0 h)) (runs-runs (take n block) (getD block n 0 ∷ []) text last a b)
+
+-- the whole block
+pub runs-block : {i j : Input} (block : List ℕ) (n : ℕ) (text : List ℕ) → length block ≤ n → Runs i (take n block) text j → Runs i block text j
+runs-block {i} {j} block n text h a = subst (λ x. Runs i x text j) (take-all n block h) a
