@@ -1,0 +1,4 @@
+pub mod Decimal
+pub mod Cutting
+pub mod Walking
+pub mod Numbering

@@ -1,0 +1,4 @@
+pub mod Told
+pub mod Heads
+pub mod Numbers
+pub mod Walk
