@@ -2,3 +2,5 @@ pub mod Decimal
 pub mod Cutting
 pub mod Walking
 pub mod Numbering
+pub mod Naming
+pub mod Soundness
