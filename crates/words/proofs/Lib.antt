@@ -4,3 +4,4 @@ pub mod Walking
 pub mod Numbering
 pub mod Naming
 pub mod Soundness
+pub mod Joining

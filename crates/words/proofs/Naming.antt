@@ -56,16 +56,16 @@ misnamed (n ∷ ns) [] at col e =
 misnamed (n ∷ ns) (f ∷ fs) at col e =
     ⊎-elim
     (λ same.
-        let m : n ≡ f .name = sym (sameBytes-decides (f .name) n .0 same) in
-        let w = length-rest f in
-        ⊎-elim
-        (λ x. let l = length-rest f (x .0) in inl (f ∷ x .0, x .1, x .2, ap (λ t. f ∷ t) (x .3), starts-more n (f .name) ns (namesOf (x .0)) m (x .4), (λ q. x .5 (starts-less n (f .name) ns (namesOf (x .0 ++ (x .1 ∷ []))) q)), x .6 ∙ omega arith))
-        (λ x. let l = length-rest f fs in inr (starts-more n (f .name) ns (namesOf fs) m (x .0), (λ q. x .1 (ap (drop 1) q)), x .2 ∙ omega arith))
-        (misnamed ns fs (at + width f) col (e ∙ cond-true (sameBytes (f .name) n) (allNamed ns fs (at + width f)) (Err (at + 2)) same)))
+    let m : n ≡ f .name = sym (sameBytes-decides (f .name) n .0 same) in
+    let w = length-rest f in
+    ⊎-elim
+    (λ x. let l = length-rest f (x .0) in inl (f ∷ x .0, x .1, x .2, ap (λ t. f ∷ t) (x .3), starts-more n (f .name) ns (namesOf (x .0)) m (x .4), (λ q. x .5 (starts-less n (f .name) ns (namesOf (x .0 ++ (x .1 ∷ []))) q)), x .6 ∙ omega arith))
+    (λ x. let l = length-rest f fs in inr (starts-more n (f .name) ns (namesOf fs) m (x .0), (λ q. x .1 (ap (drop 1) q)), x .2 ∙ omega arith))
+    (misnamed ns fs (at + width f) col (e ∙ cond-true (sameBytes (f .name) n) (allNamed ns fs (at + width f)) (Err (at + 2)) same)))
     (λ other.
-        let p : Err col ≡ Err (at + 2) = e ∙ cond-false (sameBytes (f .name) n) (allNamed ns fs (at + width f)) (Err (at + 2)) other in
-        let c : col ≡ at + 2 = cc in
-        inl ([], f, fs, refl, (n ∷ ns, refl), (λ q. both-ways (sameBytes (f .name) n) other (sameBytes-decides (f .name) n .1 (sym (starts-first n (f .name) ns [] q)))), omega arith))
+    let p : Err col ≡ Err (at + 2) = e ∙ cond-false (sameBytes (f .name) n) (allNamed ns fs (at + width f)) (Err (at + 2)) other in
+    let c : col ≡ at + 2 = cc in
+    inl ([], f, fs, refl, (n ∷ ns, refl), (λ q. both-ways (sameBytes (f .name) n) other (sameBytes-decides (f .name) n .1 (sym (starts-first n (f .name) ns [] q)))), omega arith))
     (cases-bool (sameBytes (f .name) n))
 
 pub all-right : (ns : List (List ℕ)) (fs : List Field) (at end : ℕ) → Ok end ≡ allNamed ns fs at → namesOf fs ≡ ns
@@ -75,9 +75,9 @@ all-right (n ∷ ns) [] at end e = err-not-ok (at + 1) end (sym e)
 all-right (n ∷ ns) (f ∷ fs) at end e =
     ⊎-elim
     (λ same.
-        let m : f .name ≡ n = sameBytes-decides (f .name) n .0 same in
-        let t : namesOf fs ≡ ns = all-right ns fs (at + width f) end (e ∙ cond-true (sameBytes (f .name) n) (allNamed ns fs (at + width f)) (Err (at + 2)) same) in
-        λ i. m i ∷ t i)
+    let m : f .name ≡ n = sameBytes-decides (f .name) n .0 same in
+    let t : namesOf fs ≡ ns = all-right ns fs (at + width f) end (e ∙ cond-true (sameBytes (f .name) n) (allNamed ns fs (at + width f)) (Err (at + 2)) same) in
+    λ i. m i ∷ t i)
     (λ other. err-not-ok (at + 2) end (sym (e ∙ cond-false (sameBytes (f .name) n) (allNamed ns fs (at + width f)) (Err (at + 2)) other)))
     (cases-bool (sameBytes (f .name) n))
 

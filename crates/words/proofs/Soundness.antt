@@ -107,13 +107,13 @@ unsound-at [] at col g e = none-not-some col e
 unsound-at (f ∷ fs) at col g e =
     ⊎-elim
     (λ bad.
-        let p : Some (at + 4 + length (f .name)) ≡ Some col = sym (cond-true (malformed (numberText f)) (Some (at + 4 + length (f .name))) (firstMalformed fs (at + width f)) bad) ∙ e in
-        let c : col ≡ at + 4 + length (f .name) = cc in
-        ([], f, fs, refl, tt, unsound f (g .0) bad, omega arith))
+    let p : Some (at + 4 + length (f .name)) ≡ Some col = sym (cond-true (malformed (numberText f)) (Some (at + 4 + length (f .name))) (firstMalformed fs (at + width f)) bad) ∙ e in
+    let c : col ≡ at + 4 + length (f .name) = cc in
+    ([], f, fs, refl, tt, unsound f (g .0) bad, omega arith))
     (λ good.
-        let x = unsound-at fs (at + width f) col (g .1) (sym (cond-false (malformed (numberText f)) (Some (at + 4 + length (f .name))) (firstMalformed fs (at + width f)) good) ∙ e) in
-        let l = length-rest f (x .0) in
-        (f ∷ x .0, x .1, x .2, ap (λ t. f ∷ t) (x .3), (sound f (g .0) good, x .4), x .5, x .6 ∙ omega arith))
+    let x = unsound-at fs (at + width f) col (g .1) (sym (cond-false (malformed (numberText f)) (Some (at + 4 + length (f .name))) (firstMalformed fs (at + width f)) good) ∙ e) in
+    let l = length-rest f (x .0) in
+    (f ∷ x .0, x .1, x .2, ap (λ t. f ∷ t) (x .3), (sound f (g .0) good, x .4), x .5, x .6 ∙ omega arith))
     (cases-bool (malformed (numberText f)))
 
 -- the fault of a form whose fields begin after its head

@@ -13,8 +13,10 @@ use Rattle.std.specs.declared.option.Option.{Option}
 use Rattle.std.specs.declared.option.Option.the-variants.{Some, None}
 use Rattle.std.specs.declared.result.Result.{Result}
 use Rattle.std.specs.declared.result.Result.the-variants.{Ok, Err}
-use Rattle.brackets.specs.Grammar.{Numeral, Field, GoodField, rest}
+use Rattle.brackets.specs.Grammar.{Numeral, Field, GoodField, rest, IsForm}
 use Rattle.words.specs.Numbers.{decimalValue}
+use Rattle.words.specs.Heads.{headText}
+use Rattle.words.specs.declared.reading.Kind.{Kind}
 use Rattle.words.specs.declared.reading.Token.{Token}
 use Rattle.words.specs.declared.reading.Token.the-variants.{Word, Number}
 use Rattle.words.specs.declared.reading.Tokens.{Tokens}
@@ -71,6 +73,10 @@ pub record Took (at : ℕ) (f : Field) (r : Tokens) : Type 0 where
   pub name : IsWord (r .name) (f .name) (at + 3)
   pub number : IsNumber (r .number) (f .sign ++ f .digits) (at + 4 + length (f .name))
   pub next : r .next ≡ at + width f
+
+-- the line's head is that of this kind, and its fields begin at place `start`
+abbrev pub HeadAt : List ℕ → Kind → ℕ → Type 0
+HeadAt line k start = (head : List ℕ) (fields : List Field) → IsForm line head fields → (head ≡ headText k) × (start ≡ 1 + length head)
 
 -- the place after the next field if it has this name; else the column of its bracket, or of the last bracket if there is none
 abbrev pub oneNamed : List ℕ → List Field → ℕ → Result ℕ ℕ

@@ -2,6 +2,8 @@
 mod faults;
 mod form;
 mod reading;
+#[cfg(test)]
+mod tests;
 
 pub use self::faults::Told;
 pub use self::faults::WordFault;

@@ -10,11 +10,20 @@ ghost use Rattle.std.specs.Options.{Cases as BySome};
 ghost use Rattle.std.specs.Orderings.{Decides};
 ghost use Rattle.std.specs.Results.{Cases};
 ghost use Rattle.std.specs.declared.option.Option.the-variants.{Some, None};
+ghost use Rattle.std.specs.declared.result.Result.the-variants.{Ok, Err};
 ghost use Rattle.brackets.specs.Bytes.{Digit};
 ghost use Rattle.brackets.specs.Grammar.{Field};
+ghost use Rattle.brackets.specs.Layer.{Brackets};
+ghost use Rattle.words.specs.Forms.{kindOf, numbersOf};
 ghost use Rattle.words.specs.Heads.{headText, fieldNames, Unknown};
+ghost use Rattle.words.specs.Layer.{Reads};
 ghost use Rattle.words.specs.Numbers.{decimalValue};
-ghost use Rattle.words.specs.Walk.{NumberText, malformed, textValue, stops, EndsAt, FieldAt, Took, FieldsAt, oneNamed, allNamed, fieldValue, firstMalformed, oneRead};
+ghost use Rattle.words.specs.Walk.{NumberText, malformed, textValue, stops, EndsAt, FieldAt, Took, FieldsAt, HeadAt, oneNamed, allNamed, fieldValue, firstMalformed, oneRead};
+ghost use Rattle.words.specs.declared.faults.WordFault.the-variants.{Head};
+use crate::faults::WordFault;
+use crate::faults::WordFromBracket;
+use crate::form::Form;
+use brackets::brackets;
 
 // The value of at most 18 digits.
 fn magnitude(digits: &[u8]) -> i64
@@ -243,6 +252,102 @@ fn values(line: &[u8], start: usize, count: usize) -> Result<[i64; 8], u8>
     Ok(vs)
 }
 
-pub fn read(line: &[u8]) -> bool {
-    line.len() > 0
+// The form of this kind with these numbers.
+fn form_of(kind: Kind, v: &[i64; 8]) -> Form
+    ensures kind { λ r. ⌜ kindOf r ≡ kind ⌝ }
+    ensures numbers { λ r. ⌜ numbersOf r ≡ take (length (fieldNames kind)) (now (v .entry)) ⌝ }
+{
+    match kind {
+        Kind::Book => Form::Book {
+            parties: v[0],
+            days: v[1],
+            pricing: v[2],
+            default: v[3],
+            sharing: v[4],
+        },
+        Kind::Deposit => Form::Deposit {
+            party: v[0],
+            haler: v[1],
+        },
+        Kind::Withdraw => Form::Withdraw {
+            party: v[0],
+            haler: v[1],
+        },
+        Kind::Register => Form::Register {
+            day: v[0],
+            from: v[1],
+            to: v[2],
+            seller: v[3],
+            buyer: v[4],
+            kwh: v[5],
+        },
+        Kind::Market => Form::Market {
+            day: v[0],
+            from: v[1],
+            to: v[2],
+            seller: v[3],
+            buyer: v[4],
+            kwh: v[5],
+            price: v[6],
+        },
+        Kind::Close => Form::Close { day: v[0] },
+        Kind::Regulate => Form::Regulate {
+            day: v[0],
+            hour: v[1],
+            party: v[2],
+            kwh: v[3],
+            price: v[4],
+        },
+        Kind::Meter => Form::Meter {
+            day: v[0],
+            from: v[1],
+            to: v[2],
+            party: v[3],
+            kwh: v[4],
+        },
+        Kind::Evaluate => Form::Evaluate {
+            day: v[0],
+            stage: v[1],
+        },
+        Kind::Show => Form::Show { party: v[0] },
+    }
+}
+
+// The kind of the form on the line and the place after its head, unless the head is unknown.
+fn head(line: &[u8]) -> Option<(Kind, usize)>
+    requires { ⌜ Brackets (now line) (Ok tt) ⌝ }
+    ensures { λ r. ⌜ BySome r (Reads (now (line .entry)) (Err Head)) (λ p. HeadAt (now (line .entry)) (p .0) (p .1)) ⌝ }
+{
+    let end = word_end(line, 1);
+    match kind_of(&line[1..end]) {
+        Some(kind) => Some((kind, end)),
+        None => None,
+    }
+}
+
+// The form of this kind whose fields begin at `start`.
+fn fields(line: &[u8], kind: Kind, start: usize) -> Result<Form, WordFault>
+    requires shaped { ⌜ Brackets (now line) (Ok tt) ⌝ }
+    requires headed { ⌜ HeadAt (now line) kind start ⌝ }
+    ensures { λ r. ⌜ Reads (now (line .entry)) r ⌝ }
+{
+    let expected = names(kind);
+    if let Err(column) = all_named(line, start, expected) {
+        return Err(WordFault::Field { column });
+    }
+    match values(line, start, expected.len()) {
+        Ok(vs) => Ok(form_of(kind, &vs)),
+        Err(column) => Err(WordFault::Number { column }),
+    }
+}
+
+// The form on the line; else the first of the six checks that it fails, with its column.
+pub fn read(line: &[u8]) -> Result<Form, WordFault>
+    ensures { λ r. ⌜ Reads (now (line .entry)) r ⌝ }
+{
+    brackets(line)?;
+    match head(line) {
+        Some((kind, start)) => fields(line, kind, start),
+        None => Err(WordFault::Head),
+    }
 }
