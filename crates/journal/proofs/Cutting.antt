@@ -12,16 +12,20 @@ use Rattle.std.specs.declared.result.Result.{Result}
 use Rattle.std.specs.declared.result.Result.the-variants.{Ok, Err}
 use Rattle.answers.specs.declared.Answer.{Answer}
 use Rattle.brackets.specs.declared.BracketFault.the-variants.{Long, Byte, Shape}
+use Rattle.words.specs.declared.faults.WordFault.the-variants.{Bracket, Head, Field, Number}
 use Rattle.journal.specs.declared.refusal.Refusal.{Refusal}
-use Rattle.journal.specs.declared.refusal.Refusal.the-variants.{Brackets, NotOpened}
+use Rattle.journal.specs.declared.refusal.Refusal.the-variants.{Words, NotOpened}
 use Rattle.journal.specs.Answered.{Entered, LineText}
 
 -- a line of over 200 bytes meets the first check, whatever its bytes are
 entered-long : (front line : List ℕ) (r : Result Answer Refusal) → 200 < length front → 200 < length line → Entered front r → Entered line r
-entered-long front line (Err (Brackets Long)) f l e = l
-entered-long front line (Err (Brackets (Byte c))) f l e = absurd (omega (arith, e .0))
-entered-long front line (Err (Brackets (Shape c))) f l e = absurd (omega (arith, e .0))
-entered-long front line (Err NotOpened) f l e = absurd (omega (arith, e .0))
+entered-long front line (Err (Words (Bracket Long))) f l e = l
+entered-long front line (Err (Words (Bracket (Byte c)))) f l e = absurd (omega (arith, e .0))
+entered-long front line (Err (Words (Bracket (Shape c)))) f l e = absurd (omega (arith, e .0))
+entered-long front line (Err (Words Head)) f l e = absurd (omega (arith, e .0 .0))
+entered-long front line (Err (Words (Field c))) f l e = absurd (omega (arith, e .0 .0))
+entered-long front line (Err (Words (Number c))) f l e = absurd (omega (arith, e .0 .0))
+entered-long front line (Err NotOpened) f l e = absurd (omega (arith, e .1 .0 .0))
 entered-long front line (Ok a) f l e = e
 
 entered-whole : (line : List ℕ) (r : Result Answer Refusal) → Entered (take 201 line) r → Entered line r

@@ -16,21 +16,22 @@ use Rattle.std.specs.declared.result.Result.the-variants.{Ok, Err}
 use Rattle.answers.specs.declared.Answer.{Answer}
 use Rattle.answers.specs.Texts.{answerText}
 use Rattle.answers.specs.Writing.{laid, Answerable}
-use Rattle.brackets.specs.Layer as layer
+use Rattle.words.specs.declared.form.Form.{Form}
+use Rattle.words.specs.Layer.{Reads}
 use Rattle.journal.specs.declared.refusal.Refusal.{Refusal}
-use Rattle.journal.specs.declared.refusal.Refusal.the-variants.{Brackets, NotOpened}
-use Rattle.journal.specs.Told.{toldAs}
+use Rattle.journal.specs.declared.refusal.Refusal.the-variants.{Words, NotOpened}
+use Rattle.journal.specs.Told.{refusedAs}
 
--- a fault of the layers below, or a form, which none is accepted of before a book
+-- a fault of layers 1 and 2, or a form; a journal that keeps no book yet accepts none
 abbrev pub Entered : List ℕ → Result Answer Refusal → Type 0
-Entered line (Err (Brackets f)) = layer.Brackets line (Err f)
-Entered line (Err NotOpened) = layer.Brackets line (Ok tt)
+Entered line (Err (Words f)) = Reads line (Err f)
+Entered line (Err NotOpened) = (form : Form) × Reads line (Ok form)
 Entered line (Ok a) = ⊥
 
 -- what an outcome of the layers is answered
 abbrev pub answerOf : Result Answer Refusal → Answer
 answerOf (Ok a) = a
-answerOf (Err f) = toldAs f
+answerOf (Err f) = refusedAs f
 
 -- a line that is not empty is answered by what the layers made of it
 abbrev pub Answered : List ℕ → Answer → Type 0

@@ -1,23 +1,18 @@
 -- The layer, the number and the place of each refusal. Assumes nothing.
-use Prim.Native.Nat.{ℕ}
-use lib.IntN.{ℤ, pos}
+--
+--   told f        of a refusal; what the layers below refuse is told as they tell it
+--   refusedAs f   the answer that says so
+use lib.IntN.{pos}
 use Rattle.answers.specs.declared.Answer.{Answer}
 use Rattle.answers.specs.declared.Answer.the-variants.{Refused}
-use Rattle.brackets.specs.declared.BracketFault.{BracketFault}
-use Rattle.brackets.specs.declared.BracketFault.the-variants.{Long, Byte, Shape}
+use Rattle.words.specs.Told as words
+use Rattle.words.specs.declared.faults.Told.{Told}
 use Rattle.journal.specs.declared.refusal.Refusal.{Refusal}
-use Rattle.journal.specs.declared.refusal.Refusal.the-variants.{Brackets, NotOpened}
+use Rattle.journal.specs.declared.refusal.Refusal.the-variants.{Words, NotOpened}
 
-abbrev pub toldBrackets : BracketFault → ℕ × ℕ × ℤ
-toldBrackets Long = (1, 23, pos 201)
-toldBrackets (Byte column) = (1, 21, pos column)
-toldBrackets (Shape column) = (1, 22, pos column)
+abbrev pub told : Refusal → Told
+told (Words f) = words.told f
+told NotOpened = record { layer = 3; number = 13; place = pos 0 }
 
--- layer, number and place
-abbrev pub told : Refusal → ℕ × ℕ × ℤ
-told (Brackets f) = toldBrackets f
-told NotOpened = (3, 13, pos 0)
-
--- the answer that says so
-abbrev pub toldAs : Refusal → Answer
-toldAs f = Refused (told f .0) (told f .1) (told f .2)
+abbrev pub refusedAs : Refusal → Answer
+refusedAs f = Refused (told f .layer) (told f .number) (told f .place)

@@ -1,48 +1,28 @@
 // The line call: one line in, its answer out.
 ghost use mathlib.Core.Path.{_≡_};
-ghost use Prim.Native.Nat.{ℕ, _<_, _≤_};
-ghost use lib.ListN.{length};
-ghost use Rattle.journal.specs.Told.{toldAs};
+ghost use Rattle.journal.specs.Told.{refusedAs};
 ghost use Rattle.journal.specs.Answered.{Entered, Answered, LineCall};
 use crate::refusal::Refusal;
-use crate::refusal::RefusalFromBrackets;
+use crate::refusal::RefusalFromWords;
 use answers::Answer;
-use brackets::BracketFault;
-use brackets::brackets;
 
 // The answer that tells a refusal.
-fn told(refusal: Refusal) -> Answer
-    ensures { λ r. ⌜ r ≡ toldAs refusal ⌝ }
+fn refused(refusal: Refusal) -> Answer
+    ensures { λ r. ⌜ r ≡ refusedAs refusal ⌝ }
 {
-    match refusal {
-        Refusal::Brackets(BracketFault::Long) => Answer::Refused {
-            layer: 1,
-            number: 23,
-            place: 201,
-        },
-        Refusal::Brackets(BracketFault::Byte { column }) => Answer::Refused {
-            layer: 1,
-            number: 21,
-            place: i64::from(column),
-        },
-        Refusal::Brackets(BracketFault::Shape { column }) => Answer::Refused {
-            layer: 1,
-            number: 22,
-            place: i64::from(column),
-        },
-        Refusal::NotOpened => Answer::Refused {
-            layer: 3,
-            number: 13,
-            place: 0,
-        },
+    let told = refusal.told();
+    Answer::Refused {
+        layer: told.layer,
+        number: told.number,
+        place: told.place,
     }
 }
 
-// The layers in their order.
+// The layers in their order. Until a journal keeps a book, every form comes before an accepted one.
 fn enter(line: &[u8]) -> Result<Answer, Refusal>
     ensures { λ r. ⌜ Entered (now (line .entry)) r ⌝ }
 {
-    brackets(line)?;
+    let _form = words::read(line)?;
     Err(Refusal::NotOpened)
 }
 
@@ -52,7 +32,7 @@ fn answer(line: &[u8]) -> Answer
 {
     match enter(line) {
         Ok(answer) => answer,
-        Err(refusal) => told(refusal),
+        Err(refusal) => refused(refusal),
     }
 }
 
