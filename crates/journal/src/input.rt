@@ -59,12 +59,12 @@ impl Input {
     }
 
     // Takes the next byte of the input. Where it ends a line, the answer is at the buffer's start, and its length is returned.
-    pub fn take(&mut self, out: &mut [u8], byte: u8) -> usize
-        ensures runs { λ r. ⌜ (4096 ≤ length (now (out .entry)) → Runs (now (self .entry)) (byte ∷ []) (take r (now (out .exit))) (now (self .exit))) ⌝ }
-        ensures filled { λ r. ⌜ Filled (now (out .entry)) r (now (out .exit)) ⌝ }
+    pub fn take(&mut self, buffer: &mut [u8], byte: u8) -> usize
+        ensures runs { λ r. ⌜ (4096 ≤ length (now (buffer .entry)) → Runs (now (self .entry)) (byte ∷ []) (take r (now (buffer .exit))) (now (self .exit))) ⌝ }
+        ensures filled { λ r. ⌜ Filled (now (buffer .entry)) r (now (buffer .exit)) ⌝ }
     {
         if byte == b'\n' {
-            self.end_line(out)
+            self.end_line(buffer)
         } else {
             self.go_on(byte);
             0
@@ -72,11 +72,11 @@ impl Input {
     }
 
     // The input has ended: the answer to what follows the last end of a line.
-    pub fn end(self, out: &mut [u8]) -> usize
-        ensures whole { λ r. ⌜ (4096 ≤ length (now (out .entry)) → (input output : List ℕ) → Ran self input output → Whole input (output ++ take r (now (out .exit)))) ⌝ }
-        ensures filled { λ r. ⌜ Filled (now (out .entry)) r (now (out .exit)) ⌝ }
+    pub fn end(self, buffer: &mut [u8]) -> usize
+        ensures whole { λ r. ⌜ (4096 ≤ length (now (buffer .entry)) → (input output : List ℕ) → Ran self input output → Whole input (output ++ take r (now (buffer .exit)))) ⌝ }
+        ensures filled { λ r. ⌜ Filled (now (buffer .entry)) r (now (buffer .exit)) ⌝ }
     {
-        self.answer(out)
+        self.answer(buffer)
     }
 
     // The answer to the line as it stands, and its length.

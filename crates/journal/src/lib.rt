@@ -2,6 +2,8 @@
 mod call;
 mod input;
 mod refusal;
+#[cfg(test)]
+mod tests;
 
 pub use call::answer_line;
 pub use input::Input;

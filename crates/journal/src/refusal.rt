@@ -27,7 +27,7 @@ impl Refusal {
         ensures { λ r. ⌜ r ≡ told (now (self .entry)) ⌝ }
     {
         match self {
-            Refusal::Words(fault) => fault.told(),
+            Refusal::Words(word_fault) => word_fault.told(),
             Refusal::NotOpened => Told {
                 layer: 3,
                 number: 13,
