@@ -252,6 +252,62 @@ fn values(line: &[u8], start: usize, count: usize) -> Result<[i64; 8], u8>
     Ok(vs)
 }
 
+// The forms over hours, with these numbers.
+fn register(v: &[i64; 8]) -> Form
+    ensures kind { λ r. ⌜ kindOf r ≡ Kind.Register ⌝ }
+    ensures numbers { λ r. ⌜ numbersOf r ≡ take 6 (now (v .entry)) ⌝ }
+{
+    Form::Register {
+        day: v[0],
+        from: v[1],
+        to: v[2],
+        seller: v[3],
+        buyer: v[4],
+        kwh: v[5],
+    }
+}
+
+fn market(v: &[i64; 8]) -> Form
+    ensures kind { λ r. ⌜ kindOf r ≡ Kind.Market ⌝ }
+    ensures numbers { λ r. ⌜ numbersOf r ≡ take 7 (now (v .entry)) ⌝ }
+{
+    Form::Market {
+        day: v[0],
+        from: v[1],
+        to: v[2],
+        seller: v[3],
+        buyer: v[4],
+        kwh: v[5],
+        price: v[6],
+    }
+}
+
+fn regulate(v: &[i64; 8]) -> Form
+    ensures kind { λ r. ⌜ kindOf r ≡ Kind.Regulate ⌝ }
+    ensures numbers { λ r. ⌜ numbersOf r ≡ take 5 (now (v .entry)) ⌝ }
+{
+    Form::Regulate {
+        day: v[0],
+        hour: v[1],
+        party: v[2],
+        kwh: v[3],
+        price: v[4],
+    }
+}
+
+fn meter(v: &[i64; 8]) -> Form
+    ensures kind { λ r. ⌜ kindOf r ≡ Kind.Meter ⌝ }
+    ensures numbers { λ r. ⌜ numbersOf r ≡ take 5 (now (v .entry)) ⌝ }
+{
+    Form::Meter {
+        day: v[0],
+        from: v[1],
+        to: v[2],
+        party: v[3],
+        kwh: v[4],
+    }
+}
+
 // The form of this kind with these numbers.
 fn form_of(kind: Kind, v: &[i64; 8]) -> Form
     ensures kind { λ r. ⌜ kindOf r ≡ kind ⌝ }
@@ -273,38 +329,11 @@ fn form_of(kind: Kind, v: &[i64; 8]) -> Form
             party: v[0],
             haler: v[1],
         },
-        Kind::Register => Form::Register {
-            day: v[0],
-            from: v[1],
-            to: v[2],
-            seller: v[3],
-            buyer: v[4],
-            kwh: v[5],
-        },
-        Kind::Market => Form::Market {
-            day: v[0],
-            from: v[1],
-            to: v[2],
-            seller: v[3],
-            buyer: v[4],
-            kwh: v[5],
-            price: v[6],
-        },
+        Kind::Register => register(v),
+        Kind::Market => market(v),
         Kind::Close => Form::Close { day: v[0] },
-        Kind::Regulate => Form::Regulate {
-            day: v[0],
-            hour: v[1],
-            party: v[2],
-            kwh: v[3],
-            price: v[4],
-        },
-        Kind::Meter => Form::Meter {
-            day: v[0],
-            from: v[1],
-            to: v[2],
-            party: v[3],
-            kwh: v[4],
-        },
+        Kind::Regulate => regulate(v),
+        Kind::Meter => meter(v),
         Kind::Evaluate => Form::Evaluate {
             day: v[0],
             stage: v[1],
