@@ -17,6 +17,7 @@ ghost use Rattle.brackets.specs.Layer.{Brackets};
 ghost use Rattle.words.specs.Forms.{kindOf, numbersOf};
 ghost use Rattle.words.specs.Heads.{headText, fieldNames, Unknown};
 ghost use Rattle.words.specs.Layer.{Reads};
+ghost use Rattle.words.specs.Written.{ReadsBack, Answers};
 ghost use Rattle.words.specs.Numbers.{decimalValue};
 ghost use Rattle.words.specs.Walk.{NumberText, malformed, textValue, stops, EndsAt, FieldAt, Took, FieldsAt, HeadAt, oneNamed, allNamed, fieldValue, firstMalformed, oneRead};
 ghost use Rattle.words.specs.declared.faults.WordFault.the-variants.{Head};
@@ -342,10 +343,18 @@ fn form_of(kind: Kind, v: &[i64; 8]) -> Form
     }
 }
 
+// Whether the line has the shape of a form; a bracket fault is carried on whole.
+fn shaped(line: &[u8]) -> Result<(), WordFault>
+    ensures { λ r. ⌜ Cases r (λ _. Brackets (now (line .entry)) (Ok tt)) (λ f. Answers (now (line .entry)) (Err f)) ⌝ }
+{
+    brackets(line)?;
+    Ok(())
+}
+
 // The kind of the form on the line and the place after its head, unless the head is unknown.
 fn head(line: &[u8]) -> Option<(Kind, usize)>
     requires { ⌜ Brackets (now line) (Ok tt) ⌝ }
-    ensures { λ r. ⌜ BySome r (Reads (now (line .entry)) (Err Head)) (λ p. HeadAt (now (line .entry)) (p .0) (p .1)) ⌝ }
+    ensures { λ r. ⌜ BySome r (Answers (now (line .entry)) (Err Head)) (λ p. HeadAt (now (line .entry)) (p .0) (p .1)) ⌝ }
 {
     let end = word_end(line, 1);
     match kind_of(&line[1..end]) {
@@ -358,7 +367,7 @@ fn head(line: &[u8]) -> Option<(Kind, usize)>
 fn fields(line: &[u8], kind: Kind, start: usize) -> Result<Form, WordFault>
     requires shaped { ⌜ Brackets (now line) (Ok tt) ⌝ }
     requires headed { ⌜ HeadAt (now line) kind start ⌝ }
-    ensures { λ r. ⌜ Reads (now (line .entry)) r ⌝ }
+    ensures { λ r. ⌜ Answers (now (line .entry)) r ⌝ }
 {
     let expected = names(kind);
     if let Err(column) = all_named(line, start, expected) {
@@ -372,9 +381,10 @@ fn fields(line: &[u8], kind: Kind, start: usize) -> Result<Form, WordFault>
 
 // The form on the line; else the first of the six checks that it fails, with its column.
 pub fn read(line: &[u8]) -> Result<Form, WordFault>
-    ensures { λ r. ⌜ Reads (now (line .entry)) r ⌝ }
+    ensures reads { λ r. ⌜ Reads (now (line .entry)) r ⌝ }
+    ensures back { λ r. ⌜ ReadsBack (now (line .entry)) r ⌝ }
 {
-    brackets(line)?;
+    shaped(line)?;
     match head(line) {
         Some((kind, start)) => fields(line, kind, start),
         None => Err(WordFault::Head),
