@@ -111,16 +111,16 @@ pub fn brackets(line: &[u8]) -> Result<(), BracketFault>
     if line.len() > LONGEST {
         return Err(BracketFault::Long);
     }
-    if let Some(column) = first_unadmitted(line) {
-        return Err(BracketFault::Byte {
-            column: column as u8,
-        });
+    if let Some(c) = first_unadmitted(line) {
+        let column = c as u8;
+        return Err(BracketFault::Byte { column });
     }
     match scan(line) {
         Ok(()) => Ok(()),
-        Err(column) => Err(BracketFault::Shape {
-            column: column as u8,
-        }),
+        Err(c) => {
+            let column = c as u8;
+            Err(BracketFault::Shape { column })
+        }
     }
 }
 

@@ -5,3 +5,5 @@ pub mod Numbering
 pub mod Naming
 pub mod Soundness
 pub mod Joining
+pub mod Writing
+pub mod Back

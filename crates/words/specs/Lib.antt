@@ -4,3 +4,4 @@ pub mod Forms
 pub mod Numbers
 pub mod Layer
 pub mod Walk
+pub mod Written

@@ -1,5 +1,6 @@
 // Why a line is no form that can be entered, and what is told of it.
 ghost use mathlib.Core.Path.{_≡_};
+ghost use lib.IntN.{pos};
 ghost use Rattle.words.specs.Told.{told};
 ghost use Rattle.words.specs.declared.faults.WordFault.the-variants.{Bracket};
 use brackets::BracketFault;
@@ -29,41 +30,30 @@ pub struct Told {
     pub place: i64,
 }
 
+// A refusal that is told at a column.
+fn at_column(layer: u8, number: u8, column: u8) -> Told
+    ensures { λ r. ⌜ r ≡ record { layer = layer; number = number; place = pos column } ⌝ }
+{
+    let place = i64::from(column);
+    Told {
+        layer,
+        number,
+        place,
+    }
+}
+
 impl WordFault {
+    // The fault's layer, number and place.
     pub fn told(&self) -> Told
         ensures { λ r. ⌜ r ≡ told (now (self .entry)) ⌝ }
     {
         match *self {
-            WordFault::Bracket(BracketFault::Long) => Told {
-                layer: 1,
-                number: 23,
-                place: 201,
-            },
-            WordFault::Bracket(BracketFault::Byte { column }) => Told {
-                layer: 1,
-                number: 21,
-                place: i64::from(column),
-            },
-            WordFault::Bracket(BracketFault::Shape { column }) => Told {
-                layer: 1,
-                number: 22,
-                place: i64::from(column),
-            },
-            WordFault::Head => Told {
-                layer: 2,
-                number: 31,
-                place: 2,
-            },
-            WordFault::Field { column } => Told {
-                layer: 2,
-                number: 32,
-                place: i64::from(column),
-            },
-            WordFault::Number { column } => Told {
-                layer: 2,
-                number: 33,
-                place: i64::from(column),
-            },
+            WordFault::Bracket(BracketFault::Long) => at_column(1, 23, 201),
+            WordFault::Bracket(BracketFault::Byte { column }) => at_column(1, 21, column),
+            WordFault::Bracket(BracketFault::Shape { column }) => at_column(1, 22, column),
+            WordFault::Head => at_column(2, 31, 2),
+            WordFault::Field { column } => at_column(2, 32, column),
+            WordFault::Number { column } => at_column(2, 33, column),
         }
     }
 }

@@ -17,6 +17,7 @@ ghost use Rattle.brackets.specs.Layer.{Brackets};
 ghost use Rattle.words.specs.Forms.{kindOf, numbersOf};
 ghost use Rattle.words.specs.Heads.{headText, fieldNames, Unknown};
 ghost use Rattle.words.specs.Layer.{Reads};
+ghost use Rattle.words.specs.Written.{ReadsBack, Answers};
 ghost use Rattle.words.specs.Numbers.{decimalValue};
 ghost use Rattle.words.specs.Walk.{NumberText, malformed, textValue, stops, EndsAt, FieldAt, Took, FieldsAt, HeadAt, oneNamed, allNamed, fieldValue, firstMalformed, oneRead};
 ghost use Rattle.words.specs.declared.faults.WordFault.the-variants.{Head};
@@ -252,6 +253,62 @@ fn values(line: &[u8], start: usize, count: usize) -> Result<[i64; 8], u8>
     Ok(vs)
 }
 
+// The forms over hours, with these numbers.
+fn register(v: &[i64; 8]) -> Form
+    ensures kind { λ r. ⌜ kindOf r ≡ Kind.Register ⌝ }
+    ensures numbers { λ r. ⌜ numbersOf r ≡ take 6 (now (v .entry)) ⌝ }
+{
+    Form::Register {
+        day: v[0],
+        from: v[1],
+        to: v[2],
+        seller: v[3],
+        buyer: v[4],
+        kwh: v[5],
+    }
+}
+
+fn market(v: &[i64; 8]) -> Form
+    ensures kind { λ r. ⌜ kindOf r ≡ Kind.Market ⌝ }
+    ensures numbers { λ r. ⌜ numbersOf r ≡ take 7 (now (v .entry)) ⌝ }
+{
+    Form::Market {
+        day: v[0],
+        from: v[1],
+        to: v[2],
+        seller: v[3],
+        buyer: v[4],
+        kwh: v[5],
+        price: v[6],
+    }
+}
+
+fn regulate(v: &[i64; 8]) -> Form
+    ensures kind { λ r. ⌜ kindOf r ≡ Kind.Regulate ⌝ }
+    ensures numbers { λ r. ⌜ numbersOf r ≡ take 5 (now (v .entry)) ⌝ }
+{
+    Form::Regulate {
+        day: v[0],
+        hour: v[1],
+        party: v[2],
+        kwh: v[3],
+        price: v[4],
+    }
+}
+
+fn meter(v: &[i64; 8]) -> Form
+    ensures kind { λ r. ⌜ kindOf r ≡ Kind.Meter ⌝ }
+    ensures numbers { λ r. ⌜ numbersOf r ≡ take 5 (now (v .entry)) ⌝ }
+{
+    Form::Meter {
+        day: v[0],
+        from: v[1],
+        to: v[2],
+        party: v[3],
+        kwh: v[4],
+    }
+}
+
 // The form of this kind with these numbers.
 fn form_of(kind: Kind, v: &[i64; 8]) -> Form
     ensures kind { λ r. ⌜ kindOf r ≡ kind ⌝ }
@@ -273,38 +330,11 @@ fn form_of(kind: Kind, v: &[i64; 8]) -> Form
             party: v[0],
             haler: v[1],
         },
-        Kind::Register => Form::Register {
-            day: v[0],
-            from: v[1],
-            to: v[2],
-            seller: v[3],
-            buyer: v[4],
-            kwh: v[5],
-        },
-        Kind::Market => Form::Market {
-            day: v[0],
-            from: v[1],
-            to: v[2],
-            seller: v[3],
-            buyer: v[4],
-            kwh: v[5],
-            price: v[6],
-        },
+        Kind::Register => register(v),
+        Kind::Market => market(v),
         Kind::Close => Form::Close { day: v[0] },
-        Kind::Regulate => Form::Regulate {
-            day: v[0],
-            hour: v[1],
-            party: v[2],
-            kwh: v[3],
-            price: v[4],
-        },
-        Kind::Meter => Form::Meter {
-            day: v[0],
-            from: v[1],
-            to: v[2],
-            party: v[3],
-            kwh: v[4],
-        },
+        Kind::Regulate => regulate(v),
+        Kind::Meter => meter(v),
         Kind::Evaluate => Form::Evaluate {
             day: v[0],
             stage: v[1],
@@ -313,10 +343,18 @@ fn form_of(kind: Kind, v: &[i64; 8]) -> Form
     }
 }
 
+// Whether the line has the shape of a form; a bracket fault is carried on whole.
+fn shaped(line: &[u8]) -> Result<(), WordFault>
+    ensures { λ r. ⌜ Cases r (λ _. Brackets (now (line .entry)) (Ok tt)) (λ f. Answers (now (line .entry)) (Err f)) ⌝ }
+{
+    brackets(line)?;
+    Ok(())
+}
+
 // The kind of the form on the line and the place after its head, unless the head is unknown.
 fn head(line: &[u8]) -> Option<(Kind, usize)>
     requires { ⌜ Brackets (now line) (Ok tt) ⌝ }
-    ensures { λ r. ⌜ BySome r (Reads (now (line .entry)) (Err Head)) (λ p. HeadAt (now (line .entry)) (p .0) (p .1)) ⌝ }
+    ensures { λ r. ⌜ BySome r (Answers (now (line .entry)) (Err Head)) (λ p. HeadAt (now (line .entry)) (p .0) (p .1)) ⌝ }
 {
     let end = word_end(line, 1);
     match kind_of(&line[1..end]) {
@@ -329,7 +367,7 @@ fn head(line: &[u8]) -> Option<(Kind, usize)>
 fn fields(line: &[u8], kind: Kind, start: usize) -> Result<Form, WordFault>
     requires shaped { ⌜ Brackets (now line) (Ok tt) ⌝ }
     requires headed { ⌜ HeadAt (now line) kind start ⌝ }
-    ensures { λ r. ⌜ Reads (now (line .entry)) r ⌝ }
+    ensures { λ r. ⌜ Answers (now (line .entry)) r ⌝ }
 {
     let expected = names(kind);
     if let Err(column) = all_named(line, start, expected) {
@@ -343,9 +381,10 @@ fn fields(line: &[u8], kind: Kind, start: usize) -> Result<Form, WordFault>
 
 // The form on the line; else the first of the six checks that it fails, with its column.
 pub fn read(line: &[u8]) -> Result<Form, WordFault>
-    ensures { λ r. ⌜ Reads (now (line .entry)) r ⌝ }
+    ensures reads { λ r. ⌜ Reads (now (line .entry)) r ⌝ }
+    ensures back { λ r. ⌜ ReadsBack (now (line .entry)) r ⌝ }
 {
-    brackets(line)?;
+    shaped(line)?;
     match head(line) {
         Some((kind, start)) => fields(line, kind, start),
         None => Err(WordFault::Head),

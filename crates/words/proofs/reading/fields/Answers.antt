@@ -6,10 +6,13 @@ use denote.Ref.{now}
 use lib.ListN.{length, take}
 use Rattle.std.specs.declared.option.Option.the-variants.{Some, None}
 use Rattle.std.specs.declared.result.Result.{Result}
+use Rattle.std.specs.declared.result.Result.the-variants.{Ok, Err}
 use Rattle.brackets.specs.Grammar.{Field}
+use Rattle.words.specs.declared.faults.WordFault.the-variants.{Field as Misnamed, Number as Malformed}
 use Rattle.words.specs.Heads.{headText, fieldNames}
 use Rattle.words.specs.Layer.{namesOf}
 use Rattle.words.specs.Walk.{allNamed, firstMalformed}
+use Rattle.words.proofs.Back.{answers}
 use Rattle.words.proofs.Joining.{fields-at, count-is, as-many, few-names}
 use Rattle.words.proofs.Naming.{misfit, all-right}
 use Rattle.words.proofs.Soundness.{first-unsound, all-sound, values-are}
@@ -20,7 +23,7 @@ told : (r : Result ℕ ℕ) (ns ms : List (List ℕ)) (fields : List Field) (at 
 told r ns ms fields at s e f h = h ∙ (λ i. allNamed (e i) fields (f i))
 
 pub returns-in-Err : need.returns-in-Err
-returns-in-Err c = (
+returns-in-Err c = answers (c .args .line .now) (Err (Misnamed (c .in-Err .column))) (
   c .pre .shaped,
   λ head fields h.
       let p = c .pre .headed head fields h in
@@ -40,7 +43,7 @@ values-requires c κs =
     }
 
 pub returns-in-Ok : need.returns-in-Ok
-returns-in-Ok c = (
+returns-in-Ok c = answers (c .args .line .now) (Ok (c .form-of .result)) (
   c .pre .shaped,
   λ head fields h.
       let p = c .pre .headed head fields h in
@@ -53,7 +56,7 @@ returns-in-Ok c = (
 )
 
 pub returns-in-Err-values : need.returns-in-Err-values
-returns-in-Err-values c = (
+returns-in-Err-values c = answers (c .args .line .now) (Err (Malformed (c .in-Err-values .column))) (
   c .pre .shaped,
   λ head fields h.
       let p = c .pre .headed head fields h in

@@ -1,4 +1,7 @@
 use mathlib.Core.Path.{_≡_, sym, _∙_}
+use Rattle.std.specs.declared.result.Result.the-variants.{Err}
+use Rattle.words.specs.declared.faults.WordFault.the-variants.{Head}
+use Rattle.words.proofs.Back.{answers}
 use Rattle.words.proofs.Joining.{end-is, head-is}
 use Rattle.words.proofs.reading.head.Needs as need
 
@@ -8,7 +11,7 @@ returns-in-Some c head fields h =
     (sym (head-is (c .args .line .now) head fields (c .word-end-end .result) h e) ∙ c .in-Some .ensures tt, e)
 
 pub returns-in-None : need.returns-in-None
-returns-in-None c = (
+returns-in-None c = answers (c .args .line .now) (Err Head) (
   c .pre,
   λ head fields h k is.
       let e = end-is (c .args .line .now) head fields (c .word-end-end .result) h (c .word-end-end .ensures) in
