@@ -3,6 +3,7 @@
 mod tests;
 mod writer;
 
+pub use writer::ANSWER_BYTES;
 pub use writer::answerable;
 pub use writer::write;
 

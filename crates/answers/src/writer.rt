@@ -11,8 +11,8 @@ ghost use Rattle.answers.specs.Texts.{fieldText, okText, noText, payText, payL
 ghost use Rattle.answers.specs.Writing.{Adds, Room, Answerable, Writes};
 use crate::Answer;
 
-// Every answer fits this many bytes.
-const ANSWER_BYTES: usize = 4096;
+// Every answer fits this many bytes, and no smaller buffer is written to.
+pub const ANSWER_BYTES: usize = 4096;
 
 // The last line that is answered.
 const LAST_LINE: i64 = 999_999_999;

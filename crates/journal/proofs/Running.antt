@@ -9,11 +9,12 @@ use lib.ListN.{length, take, drop, getD}
 use Rattle.std.proofs.shelf.Lists.{take-at, take-all, take-more}
 use Rattle.std.proofs.shelf.Elements.{all-push}
 use Rattle.std.proofs.shelf.Signed.{ints}
+use Rattle.std.specs.declared.option.Option.{Option}
 use Rattle.std.specs.declared.option.Option.the-variants.{Some, None}
 use Rattle.answers.specs.Writing.{laid}
 use Rattle.journal.specs.declared.input.Input.{Input}
 use Rattle.journal.specs.Answered.{LineText, LineCall}
-use Rattle.journal.specs.Lines.{Unbroken, ended, Divided, Outcome, Transcript, Whole, kept, Holds, Ran, Runs, Filled}
+use Rattle.journal.specs.Lines.{Unbroken, ended, Divided, Outcome, Transcript, Whole, kept, Holds, Ran, Runs, Filled, Takes}
 use Rattle.journal.proofs.Keeping.{front-more}
 use Rattle.journal.proofs.Cutting.{text-whole}
 
@@ -69,14 +70,14 @@ called-outcome d e m n lines rest h c =
 pub called-filled : (d line e : List ℕ) (z : ℤ) (n : ℕ) → LineCall d z line (Some n) e → Filled d n e
 called-filled d line e z n c =
     let t = text-is d (c .1 .0) e n (c .1 .2) (c .1 .4) in
-    record { only = c .1 .4 ∙ ap (laid d 0) (sym t); within = c .1 .3; small = λ s. absurd (omega (arith, c .0 .0)) }
+    record { only = c .1 .4 ∙ ap (laid d 0) (sym t); within = c .1 .3 }
 
 pub silent-outcome : (d e line : List ℕ) (m : ℕ) (lines : List (List ℕ)) (rest : List ℕ) → 4096 ≤ length d → m ≡ min (length lines + 1) 1000000000 → LineCall d (pos m) line None e → Outcome (length lines + 1) rest []
 silent-outcome d e line m lines rest room h c =
     (λ s. absurd (c .0 (room, omega (arith, ints), omega (arith, ints))), λ past. refl)
 
 pub silent-filled : (d line e : List ℕ) (z : ℤ) → LineCall d z line None e → Filled d 0 e
-silent-filled d line e z c = record { only = c .1; within = omega arith; small = λ s. refl }
+silent-filled d line e z c = record { only = c .1; within = omega arith }
 
 -- The run
 
@@ -114,9 +115,13 @@ runs-runs {i} {j} {k} more next text last a b input output r =
     subst (λ x. Ran k x (output ++ (text ++ last))) (append-assoc input more next) (subst (Ran k ((input ++ more) ++ next)) (append-assoc output text last) (b (input ++ more) (output ++ text) (a input output r)))
 
 -- one byte more of a block
-pub runs-more : {i j k : Input} (block : List ℕ) (n : ℕ) (text last : List ℕ) → n < length block → Runs i (take n block) text j → Runs j (getD block n 0 ∷ []) last k → Runs i (take (n + 1) block) (text ++ last) k
+runs-more : {i j k : Input} (block : List ℕ) (n : ℕ) (text last : List ℕ) → n < length block → Runs i (take n block) text j → Runs j (getD block n 0 ∷ []) last k → Runs i (take (n + 1) block) (text ++ last) k
 runs-more {i} {j} {k} block n text last h a b =
     subst (λ x. Runs i x (text ++ last) k) (sym (take-more block n 0 h)) (runs-runs (take n block) (getD block n 0 ∷ []) text last a b)
+
+pub takes-more : {i j k : Input} (block : List ℕ) (n : ℕ) (d e text : List ℕ) (r : Option ℕ) → n < length block → 4096 ≤ length d → Runs i (take n block) text j → Takes j d (getD block n 0) r k e → (t : List ℕ) × Runs i (take (n + 1) block) t k
+takes-more block n d e text None h room a t = absurd (omega (arith, t .0))
+takes-more block n d e text (Some m) h room a t = (text ++ take m e, runs-more block n text (take m e) h a (t .1))
 
 -- the whole block
 pub runs-block : {i j : Input} (block : List ℕ) (n : ℕ) (text : List ℕ) → length block ≤ n → Runs i (take n block) text j → Runs i block text j

@@ -5,13 +5,17 @@
 --   Whole input output            the output answers every line of an input that has ended
 --   Ran i input output            as the input so far has come in, the lines that ended were answered by the output, and i holds the rest
 --   Runs i more text j            as more came in, i became j, and text was written
---   Filled d r e                  r bytes were written at the start of the buffer d, which became e
+--   Filled d n e                  n bytes were written at the start of the buffer d, which became e
+--   Takes i d byte r j e          what the call for the next byte does, with the buffer d
+--   Ends i d r e                  what the call at the end of the input does
 use mathlib.Core.Path.{_≡_}
 use mathlib.Core.List.{List, [], _∷_, _++_}
 use Prim.Native.Nat.{ℕ, _+_, _<_, _≤_, min}
 use lib.IntN.{ℤ, pos}
 use lib.ListN.{length, take}
 use Rattle.std.specs.shelf.Lists.{All}
+use Rattle.std.specs.declared.option.Option.{Option}
+use Rattle.std.specs.declared.option.Option.the-variants.{Some, None}
 use Rattle.answers.specs.Writing.{laid}
 use Rattle.journal.specs.declared.input.Line.{Line}
 use Rattle.journal.specs.declared.input.Input.{Input}
@@ -63,8 +67,17 @@ pub record Ran (i : Input) (input output : List ℕ) : Type 0 where
 abbrev pub Runs : Input → List ℕ → List ℕ → Input → Type 0
 Runs i more text j = (input output : List ℕ) → Ran i input output → Ran j (input ++ more) (output ++ text)
 
--- no byte after those written is altered, and none is written into a buffer under 4,096 bytes
-pub record Filled (d : List ℕ) (r : ℕ) (e : List ℕ) : Type 0 where
-  pub only : e ≡ laid d 0 (take r e)
-  pub within : r ≤ 4096
-  pub small : length d < 4096 → r ≡ 0
+-- at most 4,096 bytes, and no byte after them altered
+pub record Filled (d : List ℕ) (n : ℕ) (e : List ℕ) : Type 0 where
+  pub only : e ≡ laid d 0 (take n e)
+  pub within : n ≤ 4096
+
+-- a byte came in: with a buffer under 4,096 bytes nothing is taken, else what answers it is at the buffer's start
+abbrev pub Takes : Input → List ℕ → ℕ → Option ℕ → Input → List ℕ → Type 0
+Takes i d byte None j e = (length d < 4096) × (j ≡ i) × (e ≡ d)
+Takes i d byte (Some n) j e = (4096 ≤ length d) × Runs i (byte ∷ []) (take n e) j × Filled d n e
+
+-- the input ended: likewise
+abbrev pub Ends : Input → List ℕ → Option ℕ → List ℕ → Type 0
+Ends i d None e = (length d < 4096) × (e ≡ d)
+Ends i d (Some n) e = (4096 ≤ length d) × ((input output : List ℕ) → Ran i input output → Whole input (output ++ take n e)) × Filled d n e

@@ -4,8 +4,9 @@ ghost use mathlib.Core.List.{List, [], _∷_, _++_};
 ghost use Prim.Native.Nat.{ℕ, _+_, _<_, _≤_};
 ghost use lib.ListN.{length, take};
 ghost use lib.IntN.{ℤ};
-ghost use Rattle.journal.specs.Lines.{kept, Holds, Outcome, Whole, Ran, Runs, Filled};
+ghost use Rattle.journal.specs.Lines.{kept, Holds, Outcome, Whole, Ran, Runs, Filled, Takes, Ends};
 use crate::call::answer_line;
+use answers::ANSWER_BYTES;
 
 // The most bytes that are kept of a line: one more than a line may have.
 const KEPT: usize = 201;
@@ -58,31 +59,38 @@ impl Input {
         }
     }
 
-    // Takes the next byte of the input. Where it ends a line, the answer is at the buffer's start, and its length is returned.
-    pub fn take(&mut self, buffer: &mut [u8], byte: u8) -> usize
-        ensures runs { λ r. ⌜ (4096 ≤ length (now (buffer .entry)) → Runs (now (self .entry)) (byte ∷ []) (take r (now (buffer .exit))) (now (self .exit))) ⌝ }
-        ensures filled { λ r. ⌜ Filled (now (buffer .entry)) r (now (buffer .exit)) ⌝ }
+    // Takes the next byte of the input. What is answered if it ends a line is then at the buffer's start, and its length is returned;
+    // None, with nothing taken, where the buffer is under 4,096 bytes.
+    pub fn take(&mut self, buffer: &mut [u8], byte: u8) -> Option<usize>
+        ensures { λ r. ⌜ Takes (now (self .entry)) (now (buffer .entry)) byte r (now (self .exit)) (now (buffer .exit)) ⌝ }
     {
+        if buffer.len() < ANSWER_BYTES {
+            return None;
+        }
         if byte == b'\n' {
-            self.end_line(buffer)
+            Some(self.end_line(buffer))
         } else {
             self.go_on(byte);
-            0
+            Some(0)
         }
     }
 
-    // The input has ended: the answer to what follows the last end of a line.
-    pub fn end(self, buffer: &mut [u8]) -> usize
-        ensures whole { λ r. ⌜ (4096 ≤ length (now (buffer .entry)) → (input output : List ℕ) → Ran self input output → Whole input (output ++ take r (now (buffer .exit)))) ⌝ }
-        ensures filled { λ r. ⌜ Filled (now (buffer .entry)) r (now (buffer .exit)) ⌝ }
+    // The input has ended: what answers the bytes after the last end of a line is at the buffer's start, and its length is returned;
+    // None where the buffer is under 4,096 bytes.
+    pub fn end(self, buffer: &mut [u8]) -> Option<usize>
+        ensures { λ r. ⌜ Ends self (now (buffer .entry)) r (now (buffer .exit)) ⌝ }
     {
-        self.answer(buffer)
+        if buffer.len() < ANSWER_BYTES {
+            return None;
+        }
+        Some(self.answer(buffer))
     }
 
     // The answer to the line as it stands, and its length.
     fn answer(&self, out: &mut [u8]) -> usize
-        ensures outcome { λ r. ⌜ (4096 ≤ length (now (out .entry)) → (lines : List (List ℕ)) (rest : List ℕ) → Holds (now (self .entry)) lines rest → Outcome (length lines + 1) rest (take r (now (out .exit)))) ⌝ }
-        ensures whole { λ r. ⌜ (4096 ≤ length (now (out .entry)) → (input output : List ℕ) → Ran (now (self .entry)) input output → Whole input (output ++ take r (now (out .exit)))) ⌝ }
+        requires { ⌜ 4096 ≤ length (now out) ⌝ }
+        ensures outcome { λ r. ⌜ ((lines : List (List ℕ)) (rest : List ℕ) → Holds (now (self .entry)) lines rest → Outcome (length lines + 1) rest (take r (now (out .exit)))) ⌝ }
+        ensures whole { λ r. ⌜ ((input output : List ℕ) → Ran (now (self .entry)) input output → Whole input (output ++ take r (now (out .exit)))) ⌝ }
         ensures filled { λ r. ⌜ Filled (now (out .entry)) r (now (out .exit)) ⌝ }
     {
         match answer_line(out, i64::from(self.number), self.line.text()) {
@@ -102,7 +110,8 @@ impl Input {
     }
 
     fn end_line(&mut self, out: &mut [u8]) -> usize
-        ensures runs { λ r. ⌜ (4096 ≤ length (now (out .entry)) → Runs (now (self .entry)) (10 ∷ []) (take r (now (out .exit))) (now (self .exit))) ⌝ }
+        requires { ⌜ 4096 ≤ length (now out) ⌝ }
+        ensures runs { λ r. ⌜ Runs (now (self .entry)) (10 ∷ []) (take r (now (out .exit))) (now (self .exit)) ⌝ }
         ensures filled { λ r. ⌜ Filled (now (out .entry)) r (now (out .exit)) ⌝ }
     {
         let len = self.answer(out);

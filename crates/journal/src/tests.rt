@@ -14,7 +14,7 @@ fn wrote(out: &[u8], len: Option<usize>, text: &[u8]) -> bool {
 fn fed(input: &mut Input, out: &mut [u8], bytes: &[u8]) -> usize {
     let mut all: usize = 0;
     for b in bytes {
-        all = all.saturating_add(input.take(out, *b));
+        all = all.saturating_add(input.take(out, *b).unwrap_or(1));
     }
     all
 }
@@ -47,19 +47,17 @@ fn lines() -> Result<(), Fail> {
 fn bytes() -> Result<(), Fail> {
     let mut out = [7u8; 4096];
     let mut input = Input::new();
-    check_eq(input.take(&mut out, b'\n'), 0)?;
+    let mut short = [7u8; 4095];
+    check_eq(input.take(&mut short, b'('), None)?;
+    check_eq(input.take(&mut out, b'\n'), Some(0))?;
     check_eq(fed(&mut input, &mut out, &[b'('; 300]), 0)?;
     let n = input.take(&mut out, b'\n');
     check(wrote(
         &out,
-        Some(n),
+        n,
         b"(no (line 2) (layer 1) (number 23) (place 201))\n",
     ))?;
-    check_eq(input.take(&mut out, b'('), 0)?;
+    check_eq(input.take(&mut out, b'('), Some(0))?;
     let n = input.end(&mut out);
-    check(wrote(
-        &out,
-        Some(n),
-        b"(no (line 3) (layer 1) (number 22) (place 2))\n",
-    ))
+    check(wrote(&out, n, b"(no (line 3) (layer 1) (number 22) (place 2))\n"))
 }
