@@ -17,7 +17,7 @@ use Rattle.std.specs.declared.option.Option.the-variants.{Some, None}
 use Rattle.brackets.specs.declared.State.{State}
 use Rattle.brackets.specs.declared.State.the-variants.{Start, Bracket, Head, Gap, Inner, Name, Sign, Minus, Digits, Between, End}
 use Rattle.brackets.specs.Bytes.{Letter, Digit, letter, digit}
-use Rattle.brackets.specs.Grammar.{Word, Numeral, Field, GoodField, rest, text, Form, Begins, Stuck, Only}
+use Rattle.brackets.specs.Grammar.{Word, Numeral, Field, GoodField, rest, text, WellShaped, Begins, Stuck, Only}
 use Rattle.brackets.specs.Scanner.{step, next, run}
 
 pub run-append : (o : Option State) (p t : List ℕ) → run o (p ++ t) ≡ run (run o p) t
@@ -51,7 +51,7 @@ after sg ds fs = sg ++ (ds ++ (41 ∷ rest fs))
 
 -- t completes a form in this state
 abbrev Rest : State → List ℕ → Type 0
-Rest Start t = Form t
+Rest Start t = WellShaped t
 Rest Bracket t = (w : List ℕ) × (fs : List Field) × Word w × All GoodField fs × (t ≡ w ++ rest fs)
 Rest Head t = (w : List ℕ) × (fs : List Field) × All Letter w × All GoodField fs × (t ≡ w ++ rest fs)
 Rest Gap t = (f : Field) × (fs : List Field) × GoodField f × All GoodField fs × (t ≡ 40 ∷ (f .name ++ (32 ∷ after (f .sign) (f .digits) fs)))
@@ -157,7 +157,7 @@ head-run : (fs : List Field) → All GoodField fs → run (Some Head) (rest fs) 
 head-run [] a = refl
 head-run (f ∷ fs) a = fields-run (f ∷ fs) a
 
-pub complete : (line : List ℕ) → Form line → run (Some Start) line ≡ Some End
+pub complete : (line : List ℕ) → WellShaped line → run (Some Start) line ≡ Some End
 complete line f =
     ap (run (Some Start)) (f .2 .2)
     ∙ enters Bracket Head Letter (λ b l. cond-true (letter b) _ _ (is-letter b l)) (λ b l. cond-true (letter b) _ _ (is-letter b l)) (f .0) (rest (f .1)) (f .2 .0 .0) (f .2 .0 .1)
@@ -200,7 +200,7 @@ dead p h b =
 
 -- what begins a form does so with its end cut off
 shorter : (p q : List ℕ) → Begins (p ++ q) → Begins p
-shorter p q b = (q ++ b .0, subst Form (append-assoc p q (b .0)) (b .1))
+shorter p q b = (q ++ b .0, subst WellShaped (append-assoc p q (b .0)) (b .1))
 
 before : (line : List ℕ) (m n : ℕ) → m ≤ n → Begins (take n line) → Begins (take m line)
 before line m n h b =
@@ -216,7 +216,7 @@ stuck-at line i s lt on off =
       high = omega arith;
       goes = subst (λ n. Begins (take n line)) (sym back) (begins (take i line) s on);
       longest = λ n _ b. ⊎-elim (λ h. h) (λ h. absurd (dead (take (i + 1) line) off (before line (i + 1) n h b))) (cases-lt n (i + 1));
-      unformed = λ f. dead (take (i + 1) line) off (drop (i + 1) line, subst Form (sym (take-append-drop (i + 1) line)) f);
+      unformed = λ f. dead (take (i + 1) line) off (drop (i + 1) line, subst WellShaped (sym (take-append-drop (i + 1) line)) f);
     }
 
 -- the line ends before a form does
@@ -231,7 +231,7 @@ stuck-past line s on other =
       unformed = λ f. let e = complete line f in other (cc);
     }
 
-pub form : (line : List ℕ) (s : State) → run (Some Start) line ≡ Some s → s ≡ End → Form line
+pub form : (line : List ℕ) (s : State) → run (Some Start) line ≡ Some s → s ≡ End → WellShaped line
 form line s on e = sound line Start (on ∙ ap Some e)
 
 pub run-more : (line : List ℕ) (i : ℕ) (s : State) → i < length line → run (Some Start) (take i line) ≡ Some s → run (Some Start) (take (i + 1) line) ≡ step s (getD line i 0)

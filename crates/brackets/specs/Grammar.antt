@@ -3,7 +3,7 @@
 --   Field             a field's name, sign and digits
 --   text head fields  how a form with this head and these fields is written
 --   IsForm line ..    the line is that text
---   Form line         the line is the text of some form
+--   WellShaped line   the line is the text of some form
 --   Begins p          some form begins with the bytes p
 --   Stuck line col    the line is no form, and col is the first column that cannot go on
 --   Only line col     no other column is
@@ -49,12 +49,12 @@ abbrev pub IsForm : List ℕ → List ℕ → List Field → Type 0
 IsForm line head fields = Word head × All GoodField fields × (line ≡ text head fields)
 
 -- the line is a form
-abbrev pub Form : List ℕ → Type 0
-Form line = (head : List ℕ) × (fields : List Field) × IsForm line head fields
+abbrev pub WellShaped : List ℕ → Type 0
+WellShaped line = (head : List ℕ) × (fields : List Field) × IsForm line head fields
 
 -- some form begins with these bytes
 abbrev pub Begins : List ℕ → Type 0
-Begins p = (t : List ℕ) × Form (p ++ t)
+Begins p = (t : List ℕ) × WellShaped (p ++ t)
 
 -- the bytes before column col are the longest beginning of the line that some form shares; col may be one past the line's end
 pub record Stuck (line : List ℕ) (col : ℕ) : Type 0 where
@@ -62,7 +62,7 @@ pub record Stuck (line : List ℕ) (col : ℕ) : Type 0 where
   pub high : col ≤ length line + 1
   pub goes : Begins (take (col - 1) line)
   pub longest : (n : ℕ) → n ≤ length line → Begins (take n line) → n < col
-  pub unformed : Form line → ⊥
+  pub unformed : WellShaped line → ⊥
 
 abbrev pub Only : List ℕ → ℕ → Type 0
 Only line col = (d : ℕ) → Stuck line d → d ≡ col

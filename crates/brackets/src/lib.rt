@@ -5,7 +5,7 @@ ghost use lib.ListN.{length};
 ghost use Rattle.std.specs.Options.{Cases as BySome};
 ghost use Rattle.std.specs.Results.{Cases};
 ghost use Rattle.brackets.specs.Bytes.{admitted, Clean, FirstBad};
-ghost use Rattle.brackets.specs.Grammar.{Form, Stuck, Only};
+ghost use Rattle.brackets.specs.Grammar.{WellShaped, Stuck, Only};
 ghost use Rattle.brackets.specs.Scanner.{step};
 ghost use Rattle.brackets.specs.Layer.{Brackets};
 
@@ -88,7 +88,7 @@ fn advance(s: State, b: u8) -> Option<State>
 // Whether the line is a form, or the first column that cannot go on.
 fn scan(line: &[u8]) -> Result<(), usize>
     requires { ⌜ length (now line) ≤ 200 ⌝ }
-    ensures { λ r. ⌜ Cases r (λ _. Form (now (line .entry))) (λ col. Stuck (now (line .entry)) col × Only (now (line .entry)) col) ⌝ }
+    ensures { λ r. ⌜ Cases r (λ _. WellShaped (now (line .entry))) (λ col. Stuck (now (line .entry)) col × Only (now (line .entry)) col) ⌝ }
 {
     let mut s = State::Start;
     for (i, b) in line.iter().enumerate() {

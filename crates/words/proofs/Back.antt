@@ -28,7 +28,7 @@ use Rattle.words.specs.Forms.{kindOf, numbersOf}
 use Rattle.words.specs.Heads.{headText, fieldNames}
 use Rattle.words.specs.Numbers.{value, Sound}
 use Rattle.words.specs.Layer.{nameOf, namesOf, Starts, Misfit, FirstUnsound, Reads}
-use Rattle.words.specs.Written.{fieldsOf, formText, Short, ReadsBack, Answers}
+use Rattle.words.specs.Written.{fieldsOf, formText, Short, ReadsBack}
 use Rattle.words.proofs.Naming.{length-text}
 use Rattle.words.proofs.Writing.{all-good, all-sound-of, names-of, values-of, room, within}
 
@@ -197,7 +197,7 @@ pub clean : (line head : List ℕ) (fields : List Field) → IsForm line head fi
 clean line head fields h k l = all-getD Admitted line k 0 l (text-in line head fields h)
 
 -- no field is at fault
-fits : (ns : List (List ℕ)) (head : List ℕ) (fs : List Field) (col : ℕ) → namesOf fs ≡ ns → Misfit ns head fs col → ⊥
+pub fits : (ns : List (List ℕ)) (head : List ℕ) (fs : List Field) (col : ℕ) → namesOf fs ≡ ns → Misfit ns head fs col → ⊥
 fits ns head fs col e m =
     ⊎-elim
     (λ x.
@@ -210,7 +210,7 @@ later : (before : List Field) (f : Field) (after : List Field) → All Sound (be
 later [] f after a = a .0
 later (b ∷ before) f after a = later before f after (a .1)
 
-all-fit : (head : List ℕ) (fs : List Field) (col : ℕ) → All Sound fs → FirstUnsound head fs col → ⊥
+pub all-fit : (head : List ℕ) (fs : List Field) (col : ℕ) → All Sound fs → FirstUnsound head fs col → ⊥
 all-fit head fs col a x = x .5 (later (x .0) (x .1) (x .2) (subst (All Sound) (x .3) a))
 
 same : (f : Form) (line : List ℕ) (r : Result Form WordFault) → Short f → line ≡ formText f → Reads line r → r ≡ Ok f
@@ -239,6 +239,3 @@ same f line (Ok g) s e h =
 
 pub reads-back : (line : List ℕ) (r : Result Form WordFault) → Reads line r → ReadsBack line r
 reads-back line r h f s e = same f line r s e h
-
-pub answers : (line : List ℕ) (r : Result Form WordFault) → Reads line r → Answers line r
-answers line r h = (h, reads-back line r h)

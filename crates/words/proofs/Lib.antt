@@ -7,3 +7,4 @@ pub mod Soundness
 pub mod Joining
 pub mod Writing
 pub mod Back
+pub mod Once

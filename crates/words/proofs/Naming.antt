@@ -30,16 +30,16 @@ WrongAt ns fs at col = (before : List Field) × (f : Field) × (later : List Fie
 abbrev MissingAt : List (List ℕ) → List Field → ℕ → ℕ → Type 0
 MissingAt ns fs at col = Starts ns (namesOf fs) × (namesOf fs ≡ ns → ⊥) × (col ≡ at + length (rest fs))
 
-starts-more : (n m : List ℕ) (ns these : List (List ℕ)) → n ≡ m → Starts ns these → Starts (n ∷ ns) (m ∷ these)
+pub starts-more : (n m : List ℕ) (ns these : List (List ℕ)) → n ≡ m → Starts ns these → Starts (n ∷ ns) (m ∷ these)
 starts-more n m ns these e s = (s .0, (λ i. e i ∷ s .1 i))
 
-starts-less : (n m : List ℕ) (ns these : List (List ℕ)) → Starts (n ∷ ns) (m ∷ these) → Starts ns these
+pub starts-less : (n m : List ℕ) (ns these : List (List ℕ)) → Starts (n ∷ ns) (m ∷ these) → Starts ns these
 starts-less n m ns these s = (s .0, ap (drop 1) (s .1))
 
-starts-first : (n m : List ℕ) (ns these : List (List ℕ)) → Starts (n ∷ ns) (m ∷ these) → n ≡ m
+pub starts-first : (n m : List ℕ) (ns these : List (List ℕ)) → Starts (n ∷ ns) (m ∷ these) → n ≡ m
 starts-first n m ns these s = ap (λ l. getD l 0 []) (s .1)
 
-starts-none : (m : List ℕ) (these : List (List ℕ)) → Starts [] (m ∷ these) → ⊥
+pub starts-none : (m : List ℕ) (these : List (List ℕ)) → Starts [] (m ∷ these) → ⊥
 starts-none m these s = let l : 0 ≡ length (m ∷ (these ++ s .0)) = ap length (s .1) in omega arith
 
 err-not-ok : {X : Type 0} (c n : ℕ) → _≡_ {A = Result ℕ ℕ} (Err c) (Ok n) → X

@@ -1,6 +1,7 @@
 -- What layers 1 and 2 answer to a line. Columns count from 1. Assumes nothing.
 --
 --   Reads line r           r is the answer: each case also says that the checks before it passed
+--   Once line r            no other answer fits the line
 --   OfForm head fields r   the same for a line of the right shape, by its head and its fields
 --   Misfit ns head .. col  the fields have not just the names ns, in order; the fault is told at column col
 --   FirstUnsound .. col    a number is not written as it may be, and the first of these stands at column col
@@ -68,3 +69,7 @@ Reads line (Err Head) = Shaped line (Err Head)
 Reads line (Err (Misnamed c)) = Shaped line (Err (Misnamed c))
 Reads line (Err (Malformed c)) = Shaped line (Err (Malformed c))
 Reads line (Ok f) = Shaped line (Ok f)
+
+-- no other answer fits the line
+abbrev pub Once : List ℕ → Result Form WordFault → Type 0
+Once line r = (s : Result Form WordFault) → Reads line s → s ≡ r

@@ -16,7 +16,7 @@ use Rattle.words.specs.declared.form.Form.{Form}
 use Rattle.words.specs.declared.faults.WordFault.{WordFault}
 use Rattle.words.specs.Forms.{kindOf, numbersOf}
 use Rattle.words.specs.Heads.{headText, fieldNames}
-use Rattle.words.specs.Layer.{Reads}
+use Rattle.words.specs.Layer.{Reads, Once}
 
 -- a name with a number, in decimal, with a minus below 0
 abbrev pub fieldOf : List ℕ → ℤ → Field
@@ -41,6 +41,6 @@ Short f = All Digits18 (numbersOf f)
 abbrev pub ReadsBack : List ℕ → Result Form WordFault → Type 0
 ReadsBack line r = (f : Form) → Short f → line ≡ formText f → r ≡ Ok f
 
--- both at once, for private functions
+-- the answer, that it is the only one, and this, for private functions
 abbrev pub Answers : List ℕ → Result Form WordFault → Type 0
-Answers line r = Reads line r × ReadsBack line r
+Answers line r = Reads line r × Once line r × ReadsBack line r

@@ -16,7 +16,7 @@ ghost use Rattle.brackets.specs.Grammar.{Field};
 ghost use Rattle.brackets.specs.Layer.{Brackets};
 ghost use Rattle.words.specs.Forms.{kindOf, numbersOf};
 ghost use Rattle.words.specs.Heads.{headText, fieldNames, Unknown};
-ghost use Rattle.words.specs.Layer.{Reads};
+ghost use Rattle.words.specs.Layer.{Reads, Once};
 ghost use Rattle.words.specs.Written.{ReadsBack, Answers};
 ghost use Rattle.words.specs.Numbers.{decimalValue};
 ghost use Rattle.words.specs.Walk.{NumberText, malformed, textValue, stops, EndsAt, FieldAt, Took, FieldsAt, HeadAt, oneNamed, allNamed, fieldValue, firstMalformed, oneRead};
@@ -382,6 +382,7 @@ fn fields(line: &[u8], kind: Kind, start: usize) -> Result<Form, WordFault>
 // The form on the line; else the first of the six checks that it fails, with its column.
 pub fn read(line: &[u8]) -> Result<Form, WordFault>
     ensures reads { λ r. ⌜ Reads (now (line .entry)) r ⌝ }
+    ensures once { λ r. ⌜ Once (now (line .entry)) r ⌝ }
     ensures back { λ r. ⌜ ReadsBack (now (line .entry)) r ⌝ }
 {
     shaped(line)?;

@@ -12,7 +12,7 @@ use Rattle.words.specs.declared.faults.WordFault.the-variants.{Field as Misnam
 use Rattle.words.specs.Heads.{headText, fieldNames}
 use Rattle.words.specs.Layer.{namesOf}
 use Rattle.words.specs.Walk.{allNamed, firstMalformed}
-use Rattle.words.proofs.Back.{answers}
+use Rattle.words.proofs.Once.{answers}
 use Rattle.words.proofs.Joining.{fields-at, count-is, as-many, few-names}
 use Rattle.words.proofs.Naming.{misfit, all-right}
 use Rattle.words.proofs.Soundness.{first-unsound, all-sound, values-are}

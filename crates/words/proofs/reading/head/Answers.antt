@@ -1,7 +1,7 @@
 use mathlib.Core.Path.{_≡_, sym, _∙_}
 use Rattle.std.specs.declared.result.Result.the-variants.{Err}
 use Rattle.words.specs.declared.faults.WordFault.the-variants.{Head}
-use Rattle.words.proofs.Back.{answers}
+use Rattle.words.proofs.Once.{answers}
 use Rattle.words.proofs.Joining.{end-is, head-is}
 use Rattle.words.proofs.reading.head.Needs as need
 

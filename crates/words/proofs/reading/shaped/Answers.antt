@@ -1,7 +1,7 @@
 use Rattle.std.specs.declared.result.Result.the-variants.{Err}
 use Rattle.std.proofs.shelf.Results.{err-from-errBy}
 use Rattle.words.specs.declared.faults.WordFault.the-variants.{Bracket}
-use Rattle.words.proofs.Back.{answers}
+use Rattle.words.proofs.Once.{answers}
 use Rattle.words.proofs.reading.shaped.Needs as need
 
 pub returns-in-Break-brackets : need.returns-in-Break-brackets
