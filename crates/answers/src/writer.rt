@@ -67,7 +67,8 @@ impl<'a> Writer<'a> {
         }
     }
 
-    // ` (name number)`
+    // ` (name number)`: at most 10 bytes of a name, 20 of a number and 5 around them, so under 40. A line of three fields then takes
+    // at most 130 bytes, one of four 170, and the lines of 20 parties 2,600.
     fn field(&mut self, name: &[u8], number: i64)
         requires room { ⌜ Room (now self) 40 ⌝ }
         requires brief { ⌜ length (now name) ≤ 10 ⌝ }

@@ -7,7 +7,7 @@
 --   Runs i more text j            as more came in, i became j, and text was written
 --   Filled d n e                  n bytes were written at the start of the buffer d, which became e
 --   Takes i d byte r j e          what the call for the next byte does, with the buffer d
---   Ends i d r e                  what the call at the end of the input does
+--   Finishes i d r e              what the call at the end of the input does
 use mathlib.Core.Path.{_≡_}
 use mathlib.Core.List.{List, [], _∷_, _++_}
 use Prim.Native.Nat.{ℕ, _+_, _<_, _≤_, min}
@@ -78,6 +78,6 @@ Takes i d byte None j e = (length d < 4096) × (j ≡ i) × (e ≡ d)
 Takes i d byte (Some n) j e = (4096 ≤ length d) × Runs i (byte ∷ []) (take n e) j × Filled d n e
 
 -- the input ended: likewise
-abbrev pub Ends : Input → List ℕ → Option ℕ → List ℕ → Type 0
-Ends i d None e = (length d < 4096) × (e ≡ d)
-Ends i d (Some n) e = (4096 ≤ length d) × ((input output : List ℕ) → Ran i input output → Whole input (output ++ take n e)) × Filled d n e
+abbrev pub Finishes : Input → List ℕ → Option ℕ → List ℕ → Type 0
+Finishes i d None e = (length d < 4096) × (e ≡ d)
+Finishes i d (Some n) e = (4096 ≤ length d) × ((input output : List ℕ) → Ran i input output → Whole input (output ++ take n e)) × Filled d n e

@@ -4,7 +4,7 @@ ghost use mathlib.Core.List.{List, [], _∷_, _++_};
 ghost use Prim.Native.Nat.{ℕ, _+_, _<_, _≤_};
 ghost use lib.ListN.{length, take};
 ghost use lib.IntN.{ℤ};
-ghost use Rattle.journal.specs.Lines.{kept, Holds, Outcome, Whole, Ran, Runs, Filled, Takes, Ends};
+ghost use Rattle.journal.specs.Lines.{kept, Holds, Outcome, Whole, Ran, Runs, Filled, Takes, Finishes};
 use crate::call::answer_line;
 use answers::ANSWER_BYTES;
 
@@ -22,6 +22,7 @@ struct Line {
 }
 
 impl Line {
+    // One byte more; past 201 it is only known that the line is longer.
     fn push(&mut self, byte: u8)
         ensures { λ _. ⌜ kept (now (self .exit)) ≡ take 201 (kept (now (self .entry)) ++ byte ∷ []) ⌝ }
     {
@@ -32,6 +33,7 @@ impl Line {
         }
     }
 
+    // The bytes that are kept.
     fn text(&self) -> &[u8]
         ensures { λ r. ⌜ now r ≡ kept (now (self .entry)) ⌝ }
     {
@@ -47,6 +49,7 @@ pub struct Input {
 }
 
 impl Input {
+    // Before the first byte: line 1 begins.
     pub fn new() -> Input
         ensures { λ r. ⌜ Ran r [] [] ⌝ }
     {
@@ -61,7 +64,7 @@ impl Input {
 
     // Takes the next byte of the input. What is answered if it ends a line is then at the buffer's start, and its length is returned;
     // None, with nothing taken, where the buffer is under 4,096 bytes.
-    pub fn take(&mut self, buffer: &mut [u8], byte: u8) -> Option<usize>
+    pub fn take_byte(&mut self, buffer: &mut [u8], byte: u8) -> Option<usize>
         ensures { λ r. ⌜ Takes (now (self .entry)) (now (buffer .entry)) byte r (now (self .exit)) (now (buffer .exit)) ⌝ }
     {
         if buffer.len() < ANSWER_BYTES {
@@ -77,8 +80,8 @@ impl Input {
 
     // The input has ended: what answers the bytes after the last end of a line is at the buffer's start, and its length is returned;
     // None where the buffer is under 4,096 bytes.
-    pub fn end(self, buffer: &mut [u8]) -> Option<usize>
-        ensures { λ r. ⌜ Ends self (now (buffer .entry)) r (now (buffer .exit)) ⌝ }
+    pub fn finish(self, buffer: &mut [u8]) -> Option<usize>
+        ensures { λ r. ⌜ Finishes self (now (buffer .entry)) r (now (buffer .exit)) ⌝ }
     {
         if buffer.len() < ANSWER_BYTES {
             return None;
@@ -109,6 +112,7 @@ impl Input {
         }
     }
 
+    // Byte 10 came: the line is answered, and the next begins.
     fn end_line(&mut self, out: &mut [u8]) -> usize
         requires { ⌜ 4096 ≤ length (now out) ⌝ }
         ensures runs { λ r. ⌜ Runs (now (self .entry)) (10 ∷ []) (take r (now (out .exit))) (now (self .exit)) ⌝ }
@@ -119,6 +123,7 @@ impl Input {
         len
     }
 
+    // Another byte came: it is one more of the line.
     fn go_on(&mut self, byte: u8)
         requires { ⌜ (byte ≡ 10 → ⊥) ⌝ }
         ensures { λ _. ⌜ Runs (now (self .entry)) (byte ∷ []) [] (now (self .exit)) ⌝ }

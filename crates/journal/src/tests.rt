@@ -14,7 +14,7 @@ fn wrote(out: &[u8], len: Option<usize>, text: &[u8]) -> bool {
 fn fed(input: &mut Input, out: &mut [u8], bytes: &[u8]) -> usize {
     let mut all: usize = 0;
     for b in bytes {
-        all = all.saturating_add(input.take(out, *b).unwrap_or(1));
+        all = all.saturating_add(input.take_byte(out, *b).unwrap_or(1));
     }
     all
 }
@@ -48,16 +48,16 @@ fn bytes() -> Result<(), Fail> {
     let mut out = [7u8; 4096];
     let mut input = Input::new();
     let mut short = [7u8; 4095];
-    check_eq(input.take(&mut short, b'('), None)?;
-    check_eq(input.take(&mut out, b'\n'), Some(0))?;
+    check_eq(input.take_byte(&mut short, b'('), None)?;
+    check_eq(input.take_byte(&mut out, b'\n'), Some(0))?;
     check_eq(fed(&mut input, &mut out, &[b'('; 300]), 0)?;
-    let n = input.take(&mut out, b'\n');
+    let n = input.take_byte(&mut out, b'\n');
     check(wrote(
         &out,
         n,
         b"(no (line 2) (layer 1) (number 23) (place 201))\n",
     ))?;
-    check_eq(input.take(&mut out, b'('), Some(0))?;
-    let n = input.end(&mut out);
+    check_eq(input.take_byte(&mut out, b'('), Some(0))?;
+    let n = input.finish(&mut out);
     check(wrote(&out, n, b"(no (line 3) (layer 1) (number 22) (place 2))\n"))
 }

@@ -23,7 +23,7 @@ fn feed<W: Write>(out: &mut W, room: &mut [u8], input: &mut Input, block: &[u8])
     ensures { λ r. ⌜ made r (λ _. (text : List ℕ) × Runs (now (input .entry)) (now (block .entry)) text (now (input .exit))) ⌝ }
 {
     for byte in block {
-        if let Some(len) = input.take(room, *byte) {
+        if let Some(len) = input.take_byte(room, *byte) {
             out.write_all(&room[0..len])?;
         }
     }
@@ -44,7 +44,7 @@ fn main(rt: LibcRuntime) -> io::Result<()> {
         }
         feed(&mut out, &mut room, &mut input, &block[0..len])?;
     }
-    if let Some(len) = input.end(&mut room) {
+    if let Some(len) = input.finish(&mut room) {
         out.write_all(&room[0..len])?;
     }
     out.flush()
