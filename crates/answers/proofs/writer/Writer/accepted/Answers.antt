@@ -1,0 +1,12 @@
+use lib.Chars.{codes}
+use lib.IntN.{pos}
+use borrow.Author.Needs.{needs}
+use Rattle.answers.specs.Texts.{fieldText}
+use Rattle.answers.specs.Writing.{Adds}
+use Rattle.answers.proofs.Laying.{adds-adds}
+use Rattle.answers.proofs.writer.Writer.accepted.Needs as need
+
+pub returns : need.returns
+returns c =
+    let line : Adds (fieldText (codes "line") (c .args .line)) (c .text .last .self) (c .field .last .self) = search needs in
+    record { adds = adds-adds (c .text .ensures) (adds-adds line (c .text-2 .ensures)); short = search needs }

@@ -1,0 +1,3 @@
+pub mod Told
+pub mod Answered
+pub mod Lines

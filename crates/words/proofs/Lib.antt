@@ -1,0 +1,10 @@
+pub mod Decimal
+pub mod Cutting
+pub mod Walking
+pub mod Numbering
+pub mod Naming
+pub mod Soundness
+pub mod Joining
+pub mod Writing
+pub mod Back
+pub mod Once
