@@ -47,6 +47,11 @@ pub record EndsAt (line : List ℕ) (start r : ℕ) : Type 0 where
   pub inner : (k : ℕ) → start ≤ k → k < r → stops (getD line k 0) ≡ false
   pub here : r < length line → stops (getD line r 0) ≡ true
 
+-- the bytes of a token
+abbrev pub tokenText : Token → List ℕ
+tokenText (Word text column) = text .now
+tokenText (Number text column) = text .now
+
 -- the token is this word, or this number, at this column
 abbrev pub IsWord : Token → List ℕ → ℕ → Type 0
 IsWord (Word s c) w col = (s .now ≡ w) × (c ≡ col)

@@ -19,7 +19,7 @@ ghost use Rattle.words.specs.Heads.{headText, fieldNames, Unknown};
 ghost use Rattle.words.specs.Layer.{Reads, Once};
 ghost use Rattle.words.specs.Written.{ReadsBack, Answers};
 ghost use Rattle.words.specs.Numbers.{decimalValue};
-ghost use Rattle.words.specs.Walk.{NumberText, malformed, textValue, stops, EndsAt, FieldAt, Took, FieldsAt, HeadAt, oneNamed, allNamed, fieldValue, firstMalformed, oneRead};
+ghost use Rattle.words.specs.Walk.{NumberText, tokenText, malformed, textValue, stops, EndsAt, FieldAt, Took, FieldsAt, HeadAt, oneNamed, allNamed, fieldValue, firstMalformed, oneRead};
 ghost use Rattle.words.specs.declared.faults.WordFault.the-variants.{Head};
 use crate::faults::WordFault;
 use crate::faults::WordFromBracket;
@@ -343,6 +343,16 @@ fn form_of(kind: Kind, v: &[i64; 8]) -> Form
     }
 }
 
+// The kind of form that has this token as its head.
+fn kind_at(head: Token) -> Option<Kind>
+    ensures { λ r. ⌜ BySome r (Unknown (tokenText (head .entry))) (λ k. tokenText (head .entry) ≡ headText k) ⌝ }
+{
+    match head {
+        Token::Word(text, _) => kind_of(text),
+        Token::Number(text, _) => kind_of(text),
+    }
+}
+
 // Whether the line has the shape of a form; a bracket fault is carried on whole.
 fn shaped(line: &[u8]) -> Result<(), WordFault>
     ensures { λ r. ⌜ Cases r (λ _. Brackets (now (line .entry)) (Ok tt)) (λ f. Answers (now (line .entry)) (Err f)) ⌝ }
@@ -357,7 +367,7 @@ fn head(line: &[u8]) -> Option<(Kind, usize)>
     ensures { λ r. ⌜ BySome r (Answers (now (line .entry)) (Err Head)) (λ p. HeadAt (now (line .entry)) (p .0) (p .1)) ⌝ }
 {
     let end = word_end(line, 1);
-    match kind_of(&line[1..end]) {
+    match kind_at(Token::Word(&line[1..end], 2)) {
         Some(kind) => Some((kind, end)),
         None => None,
     }
