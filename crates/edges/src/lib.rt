@@ -190,6 +190,29 @@ mod tests {
         check(kept_downward(10, 50, 5) && !kept_downward(10, 49, 5))
     }
 
+    // The downward kWh and the lowest price after a second delivery to an hour with 100 kWh at 700 downward.
+    fn delivered_downward(kwh: i64, price: i64) -> Option<(u64, Option<i64>)> {
+        let first = HourRecord::from_plain(&QUIET).deliver(-100, 700)?;
+        let second = first.deliver(kwh, price)?;
+        Some((second.downward.kwh, second.downward.extreme))
+    }
+
+    #[test]
+    fn deliveries_have_limits() -> Result<(), Fail> {
+        check_eq(delivered_downward(-50, -20), Some((150, Some(-20))))?;
+        check_eq(delivered_downward(-50, 800), Some((150, Some(700))))?;
+        check_eq(delivered_downward(499_999, 99_999), Some((100, Some(700))))?;
+        check_eq(
+            delivered_downward(-499_899, 99_999),
+            Some((499_999, Some(700))),
+        )?;
+        check_eq(delivered_downward(-499_900, 0), None)?;
+        check_eq(delivered_downward(500_000, 0), None)?;
+        check_eq(delivered_downward(0, 1), None)?;
+        check_eq(delivered_downward(1, 100_000), None)?;
+        check_eq(delivered_downward(i64::MIN, -99_999), None)
+    }
+
     #[test]
     fn ladder_rungs() -> Result<(), Fail> {
         let hour = HourRecord::from_plain(&QUIET);

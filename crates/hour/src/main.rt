@@ -2,6 +2,7 @@
 use hourly::plain::PlainCell;
 use hourly::plain::PlainDeliveries;
 use hourly::plain::PlainRecord;
+use hourly::record::HourRecord;
 use pricing::Pricing;
 use pricing::ladder::Ladder;
 use pricing::ladder::LadderPricing;
@@ -137,6 +138,13 @@ fn show_worked(rt: &LibcRuntime) -> Result<(), AnyError> {
     )
 }
 
+// The record of upward deliveries of 400 kWh at 3000 and 100 kWh at 5000.
+fn two_deliveries() -> Option<PlainRecord> {
+    let first = HourRecord::from_plain(&QUIET).deliver(400, 3_000)?;
+    let both = first.deliver(100, 5_000)?;
+    Some(both.to_plain())
+}
+
 // An hour with upward deliveries of 400 kWh at 3000 and 100 kWh at 5000, which party 1 made, while party 2 takes what it has not bought.
 fn show_regulated(
     rt: &LibcRuntime,
@@ -160,15 +168,8 @@ fn show_regulated(
         reading,
         last: 0,
     };
-    let upward = PlainDeliveries {
-        kwh: 500,
-        total: 1_700_000,
-        delivered: true,
-        extreme: 5_000,
-    };
-    let deliveries = PlainRecord {
-        upward,
-        downward: NO_DELIVERIES,
+    let Some(deliveries) = two_deliveries() else {
+        return Ok(());
     };
     show(
         rt,

@@ -5,8 +5,8 @@
 --   record-read p      the record that they stand for: the cleared one if they are not sound
 --   record-plain h     figures laid down as plain numbers
 use Prim.Native.Nat.{ℕ, _+_, _*_}
-use lib.Dec.{eqb}
-use lib.IntN.{ℤ, pos, negsuc, natAbs, _+ℤ_, _*ℤ_}
+use lib.Dec.{eqb, leb}
+use lib.IntN.{ℤ, pos, natAbs, _+ℤ_, _*ℤ_}
 use lib.Signed.{ltZ}
 use mathlib.Core.Bool.{Bool, true, false, _&&_, cond}
 use Rattle.std.specs.declared.option.Option.{Option}
@@ -16,7 +16,7 @@ use Rattle.hourly.specs.declared.deliveries.Deliveries.{Deliveries}
 use Rattle.hourly.specs.declared.record.HourRecord.{HourRecord}
 use Rattle.hourly.specs.declared.plain.PlainDeliveries.{PlainDeliveries}
 use Rattle.hourly.specs.declared.plain.PlainRecord.{PlainRecord}
-use Rattle.hourly.specs.Bounds.{deliveries-ok}
+use Rattle.hourly.specs.Bounds.{deliveries-ok, within}
 
 -- the deliveries of an hour, upward and downward apart
 pub record HourFigures : Type 0 where
@@ -70,7 +70,17 @@ extreme-of false (Some extreme) price = cond (ltZ price extreme) price extreme
 abbrev pub with-delivery : Bool → Deliveries → ℕ → ℤ → Deliveries
 with-delivery up d kwh price = record { kwh = d .kwh + kwh; total = d .total +ℤ pos kwh *ℤ price; extreme = Some (extreme-of up (d .extreme) price) }
 
--- an hour after a delivery, upward if its kWh are positive
+-- a direction has room for a delivery: of 1 kWh at least, its total then 499,999 kWh at most, at a price within ±99,999
+abbrev pub takes : Deliveries → ℕ → ℤ → Bool
+takes d kwh price = leb 1 kwh && leb (d .kwh + kwh) 499999 && within 99999 price
+
+-- an hour has room for a delivery, which is downward if its kWh are negative
+abbrev pub deliverable : HourFigures → ℤ → ℤ → Bool
+deliverable h kwh price = cond (ltZ kwh (pos 0)) (takes (h .downward) (natAbs kwh) price) (takes (h .upward) (natAbs kwh) price)
+
+-- an hour after a delivery
 abbrev pub delivered : HourFigures → ℤ → ℤ → HourFigures
-delivered h (pos kwh) price = record { upward = with-delivery true (h .upward) kwh price; downward = h .downward }
-delivered h (negsuc kwh) price = record { upward = h .upward; downward = with-delivery false (h .downward) (kwh + 1) price }
+delivered h kwh price =
+    cond (ltZ kwh (pos 0))
+    (record { upward = h .upward; downward = with-delivery false (h .downward) (natAbs kwh) price })
+    (record { upward = with-delivery true (h .upward) (natAbs kwh) price; downward = h .downward })

@@ -1,12 +1,14 @@
 // A party's hour and the record of an hour's regulating deliveries: types of which no value is out of bounds, and the plain numbers that they lie as on a page.
 ghost use mathlib.Core.Bool.{true, false, cond};
 ghost use mathlib.Core.Path.{_≡_};
-ghost use Prim.Native.Nat.{_≤_};
+ghost use Prim.Native.Nat.{_+_, _≤_};
 ghost use lib.IntN.{ℤ, pos, natAbs, _*ℤ_};
-ghost use Rattle.std.specs.declared.option.Option.the-variants.{Some};
+ghost use Rattle.std.specs.Options.{Cases as BySome, mapped};
+ghost use Rattle.std.specs.declared.option.Option.the-variants.{None, Some};
+ghost use Rattle.hourly.specs.declared.deliveries.Deliveries.{Deliveries};
 ghost use Rattle.hourly.specs.Bounds.{within, deliveries-ok, not-beyond};
 ghost use Rattle.hourly.specs.Cells.{figures, sound, read, plain};
-ghost use Rattle.hourly.specs.Records.{record-figures, record-sound, record-read, record-plain, deliveries-given, deliveries-sound, deliveries-plain};
+ghost use Rattle.hourly.specs.Records.{deliverable, delivered, extreme-of, takes, with-delivery, record-figures, record-sound, record-read, record-plain, deliveries-given, deliveries-sound, deliveries-plain};
 
 pub mod cell;
 pub mod deliveries;
@@ -204,6 +206,85 @@ impl HourRecord {
         PlainRecord {
             upward: plain_deliveries(true, &self.upward),
             downward: plain_deliveries(false, &self.downward),
+        }
+    }
+}
+
+// The extreme price of a direction after a delivery.
+fn extreme_after(upward: bool, extreme: Option<i64>, price: i64) -> i64
+    ensures { λ r. ⌜ r ≡ extreme-of upward extreme price ⌝ }
+{
+    match extreme {
+        None => price,
+        Some(former) => {
+            if upward {
+                if former < price { price } else { former }
+            } else {
+                if price < former { price } else { former }
+            }
+        }
+    }
+}
+
+// The tenths of a delivery.
+fn delivery_tenths(kwh: u64, price: i64) -> i64
+    requires { ⌜ kwh ≤ 499999 ⌝ ∗ ⌜ natAbs price ≤ 99999 ⌝ }
+    ensures value { λ r. ⌜ r ≡ pos kwh *ℤ price ⌝ }
+    ensures bound { λ r. ⌜ natAbs r ≤ 49999400001 ⌝ }
+{
+    match units::tenths_at(kwh as i64, price) {
+        Some(tenths) => tenths,
+        None => unreachable(),
+    }
+}
+
+// The deliveries of a direction after one more, which its total has room for.
+fn with_delivery(upward: bool, d: &Deliveries, kwh: u64, price: i64) -> Deliveries
+    requires sound { ⌜ deliveries-ok upward (now d .kwh) (now d .total) (now d .extreme) ≡ true ⌝ }
+    requires some { ⌜ 1 ≤ kwh ⌝ }
+    requires room { ⌜ now d .kwh + kwh ≤ 499999 ⌝ }
+    requires price { ⌜ natAbs price ≤ 99999 ⌝ }
+    ensures value { λ r. ⌜ r ≡ with-delivery upward (now (d .entry)) kwh price ⌝ }
+    ensures sound { λ r. ⌜ deliveries-ok upward (r .kwh) (r .total) (r .extreme) ≡ true ⌝ }
+{
+    let extreme = extreme_after(upward, d.extreme, price);
+    let tenths = delivery_tenths(kwh, price);
+    Deliveries {
+        kwh: d.kwh + kwh,
+        total: d.total + tenths,
+        extreme: Some(extreme),
+    }
+}
+
+// The deliveries of a direction after one more, or none where it has no room for that.
+fn direction_after(upward: bool, d: &Deliveries, kwh: u64, price: i64) -> Option<Deliveries>
+    requires { ⌜ deliveries-ok upward (now d .kwh) (now d .total) (now d .extreme) ≡ true ⌝ }
+    ensures value { λ r. ⌜ r ≡ cond (takes (now (d .entry)) kwh price) (Some (with-delivery upward (now (d .entry)) kwh price)) None ⌝ }
+    ensures sound { λ r. ⌜ BySome r (Unit {0}) (λ (e : Deliveries). deliveries-ok upward (e .kwh) (e .total) (e .extreme) ≡ true) ⌝ }
+{
+    if kwh < 1 || kwh > 499_999 || d.kwh > 499_999 - kwh || !lies_within(99_999, price) {
+        return None;
+    }
+    Some(with_delivery(upward, d, kwh, price))
+}
+
+impl HourRecord {
+    // The record after one more delivery, which is downward if its kWh are negative; none where it has no room for that.
+    pub fn deliver(&self, kwh: i64, price: i64) -> Option<HourRecord>
+        ensures { λ r. ⌜ mapped record-figures r ≡ cond (deliverable (record-figures (now (self .entry))) kwh price) (Some (delivered (record-figures (now (self .entry))) kwh price)) None ⌝ }
+    {
+        if kwh < 0 {
+            let downward = direction_after(false, &self.downward, kwh.unsigned_abs(), price)?;
+            Some(HourRecord {
+                upward: self.upward,
+                downward,
+            })
+        } else {
+            let upward = direction_after(true, &self.upward, kwh.unsigned_abs(), price)?;
+            Some(HourRecord {
+                upward,
+                downward: self.downward,
+            })
         }
     }
 }

@@ -16,8 +16,9 @@ use Rattle.units.specs.Sums.{page, sumN, sumZ}
 use Rattle.units.proofs.Summing.{sumZ-page, length-page, zeros-at}
 use Rattle.std.specs.declared.option.Option.the-variants.{None}
 use Rattle.sharing.specs.Laws.{Lawful}
-use Rattle.sharing.specs.Limits.{in-range, refusal, weight-refusal}
+use Rattle.sharing.specs.Limits.{refusal}
 use Rattle.sharing.proofs.Parts.{page-within}
+use Rattle.sharing.proofs.Ranges.{accepted}
 use Rattle.sheet.specs.declared.row.Row.{Row}
 use Rattle.sheet.specs.Bounds.{Rows-within, Within, zero-row}
 use Rattle.sheet.specs.Evaluation.{ShareMap, added, operator-by, parts-by, weight, weights}
@@ -32,10 +33,6 @@ pub sumZ-pos : (ws : List ℕ) → sumZ (map pos ws) ≡ pos (sumN ws)
 sumZ-pos [] = refl
 sumZ-pos (w ∷ ws) = ap (λ (z : ℤ). pos w +ℤ z) (sumZ-pos ws)
 
-pub magnitudes-pos : (ws : List ℕ) → map natAbs (map pos ws) ≡ ws
-magnitudes-pos [] = refl
-magnitudes-pos (w ∷ ws) = ap (λ (xs : List ℕ). w ∷ xs) (magnitudes-pos ws)
-
 -- the weights of a page, read back
 pub weights-taken : (ws : List ℕ) (n : ℕ) → length ws ≡ n → take n (page (map pos ws)) ≡ map pos ws
 weights-taken ws n e = take-at (map pos ws) _ n (length-map ws pos ∙ e)
@@ -47,20 +44,9 @@ light rows h k =
     (λ ge. subst (λ (w : ℕ). w ≤ 499999) (sym (getD-past (weights rows) k 0 (omega (arith, length-map rows weight)))) (omega arith))
     (cases-lt k (length rows))
 
-no-weight-refused : (ws : List ℕ) → ((k : ℕ) → getD ws k 0 ≤ 499999) → weight-refusal (map pos ws) ≡ None
-no-weight-refused [] h = refl
-no-weight-refused (w ∷ ws) h =
-    cond-true (in-range (pos w)) _ _ (and-from _ _ (le-leb 0 w (omega arith)) (le-leb w 499999 (h 0)))
-    ∙ no-weight-refused ws (λ k. h (suc k))
-
 -- no rule refuses the remainder and the weights of an hour
 pub admitted : (n : ℤ) (rows : List Row) → natAbs n ≤ 600000000000 → length rows ≤ 20 → Rows-within rows → refusal n (map pos (weights rows)) ≡ None
-admitted n rows hn few h =
-    let l = length-map rows weight in
-    let m = length-map (weights rows) pos in
-    cond-false (ltb 600000000000 (natAbs n)) _ _ (le-ltb 600000000000 (natAbs n) hn)
-    ∙ cond-false (ltb 20 (length (map pos (weights rows)))) _ _ (le-ltb 20 (length (map pos (weights rows))) (omega arith))
-    ∙ no-weight-refused (weights rows) (light rows h)
+admitted n rows hn few h = accepted n (weights rows) hn record { few = omega (arith, length-map rows weight); each = λ k _. light rows h k }
 
 -- Lists added place by place
 

@@ -17,7 +17,8 @@ use Rattle.units.specs.Sums.{page, sumN}
 use Rattle.sharing.specs.Limits.{afterwards, answer, magnitudes, refusal}
 use Rattle.sharing.specs.declared.refusal.SharingRefusal.{SharingRefusal}
 use Rattle.sheet.specs.Evaluation.{parts-by, weight, weights}
-use Rattle.sheet.proofs.Splitting.{admitted, magnitudes-pos, weights-taken, zero-page}
+use Rattle.sharing.proofs.Ranges.{magnitudes-pos}
+use Rattle.sheet.proofs.Splitting.{admitted, weights-taken, zero-page}
 use Rattle.sheet.proofs.balance.parts_of.Needs as need
 
 pub unreachable-requires : need.unreachable-requires
