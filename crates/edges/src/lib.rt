@@ -15,7 +15,7 @@ mod tests {
     use sharing::running::Running;
     use sharing::running::RunningSharing;
     use sheet::balanced::Balanced;
-    use sheet::evaluate::settle_hour;
+    use sheet::settle_hour;
     use std::test::*;
 
     const CLEARED: PlainCell = PlainCell {

@@ -22,7 +22,7 @@ use sharing::Sharing;
 
 // The column of weights: the magnitudes of the readings.
 #[derive(Clone, Copy)]
-pub struct Weights;
+struct Weights;
 
 impl Figure for Weights as WeightsFigure {
     ghost figure = { λ s r. pos (weight r) };

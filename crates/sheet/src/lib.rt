@@ -10,23 +10,24 @@ ghost use Rattle.sheet.specs.Evaluation.{price-for};
 ghost use Rattle.sheet.specs.Gathering.{facts};
 ghost use Rattle.sheet.specs.declared.row.Row.{Row};
 
-pub mod balance;
+mod balance;
 pub mod balanced;
-pub mod evaluate;
-pub mod gather;
+mod evaluate;
+mod gather;
 pub mod gathered;
 pub mod line;
-pub mod price;
+mod price;
 pub mod priced;
 pub mod row;
-pub mod tell;
+mod tell;
 
+pub use evaluate::settle_hour;
 use gathered::Gathered;
 use pricing::prices::Prices;
 use row::Row;
 
 // A figure that every row has, and the limit that it never passes.
-pub trait Figure {
+trait Figure {
     ghost figure: { Self → Row → ℤ };
 
     ghost limit: { Self → ℕ };

@@ -34,7 +34,7 @@ fn imbalance_of(row: &Row) -> i64
 
 // The column of imbalances.
 #[derive(Clone, Copy)]
-pub struct Imbalances;
+struct Imbalances;
 
 impl Figure for Imbalances as ImbalancesFigure {
     ghost figure = { λ s r. imbalance r };
@@ -71,7 +71,7 @@ fn tenths_of(prices: &Prices, row: &Row) -> i64
 
 // The column of first amounts at an hour's prices.
 #[derive(Clone, Copy)]
-pub struct FirstAmounts {
+struct FirstAmounts {
     prices: Prices,
     ghost long: { natAbs (prices .long) ≤ 99999 },
     ghost short: { natAbs (prices .short) ≤ 99999 },
