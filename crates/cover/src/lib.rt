@@ -7,7 +7,7 @@ ghost use lib.ListN.{length};
 ghost use Rattle.std.specs.Options.{mapped};
 ghost use Rattle.std.specs.declared.option.Option.the-variants.{None, Some};
 ghost use Rattle.hourly.specs.Cells.{read};
-ghost use Rattle.cover.specs.Prices.{exposure, in-range, in-use, pair-in-range};
+ghost use Rattle.cover.specs.Prices.{exposure, in-range, in-use, pair-in-range, prices};
 ghost use Rattle.cover.specs.Need.{RoundedUp, day-tenths, fits, need-of, position-in, rounded-up, tenths-of};
 use hour::HourPrices;
 use hourly::cell::Cell;
@@ -107,52 +107,11 @@ fn in_range(hours: &[HourPrices; 24]) -> bool
     true
 }
 
-// The prices in use: night, the morning's two hours, day, evening.
-fn hours_in_use() -> [HourPrices; 24]
-    ensures { λ r. ⌜ r ≡ in-use ⌝ }
+// The prices of an hour.
+fn pair(short: u64, long: u64) -> HourPrices
+    ensures { λ r. ⌜ r ≡ prices short long ⌝ }
 {
-    let night = HourPrices {
-        short: 2_400,
-        long: 600,
-    };
-    let morning = HourPrices {
-        short: 3_600,
-        long: 700,
-    };
-    let day = HourPrices {
-        short: 4_500,
-        long: 900,
-    };
-    let evening = HourPrices {
-        short: 3_000,
-        long: 700,
-    };
-    [
-        night,
-        night,
-        night,
-        night,
-        night,
-        night,
-        morning,
-        morning,
-        day,
-        day,
-        day,
-        day,
-        day,
-        day,
-        day,
-        day,
-        day,
-        day,
-        day,
-        day,
-        evening,
-        evening,
-        evening,
-        evening,
-    ]
+    HourPrices { short, long }
 }
 
 impl ParametricPrices {
@@ -170,9 +129,37 @@ impl ParametricPrices {
     pub fn in_use() -> ParametricPrices
         ensures { λ r. ⌜ r .hours ≡ in-use ⌝ }
     {
-        ParametricPrices {
-            hours: hours_in_use(),
-        }
+        let night = pair(2_400, 600);
+        let morning = pair(3_600, 700);
+        let day = pair(4_500, 900);
+        let evening = pair(3_000, 700);
+        let hours = [
+            night,
+            night,
+            night,
+            night,
+            night,
+            night,
+            morning,
+            morning,
+            day,
+            day,
+            day,
+            day,
+            day,
+            day,
+            day,
+            day,
+            day,
+            day,
+            day,
+            day,
+            evening,
+            evening,
+            evening,
+            evening,
+        ];
+        ParametricPrices { hours }
     }
 }
 
@@ -187,3 +174,6 @@ pub fn need(prices: &ParametricPrices, counts: &[bool], cells: &[PlainCell]) -> 
     }
     Some(halers(tenths(prices, counts, cells)))
 }
+
+#[cfg(test)]
+mod tests;
