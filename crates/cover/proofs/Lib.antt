@@ -1,0 +1,3 @@
+pub mod Exposures
+pub mod Totals
+pub mod Tables
