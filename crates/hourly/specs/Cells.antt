@@ -45,3 +45,7 @@ read p = cond (sound p) (given p) cleared
 -- figures as plain numbers
 abbrev pub plain : CellFigures → PlainCell
 plain f = record { position = f .position; regulating = f .regulating; tenths = f .tenths; metered = isSome (f .reading); reading = valueOr (f .reading) (pos 0); last = f .last }
+
+-- the cleared cell as plain numbers
+abbrev pub blank : PlainCell
+blank = plain cleared

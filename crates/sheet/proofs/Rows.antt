@@ -12,14 +12,10 @@ use Rattle.std.specs.declared.option.Option.the-variants.{Some, None}
 use Rattle.std.proofs.shelf.Lists.{take-more-set, map-more, map-push, getD-set-same, getD-set-other, at-drop-more, at-drop-all, getD-take, getD-past, length-take}
 use Rattle.std.proofs.shelf.Tests.{cases-eq, cases-lt, cond-true, cond-false}
 use Rattle.hourly.specs.declared.plain.PlainCell.{PlainCell}
-use Rattle.hourly.specs.Cells.{CellFigures, cleared, plain, read}
+use Rattle.hourly.specs.Cells.{CellFigures, blank, read}
 use Rattle.sheet.specs.declared.row.Row.{Row}
 use Rattle.sheet.specs.Bounds.{Row-within, Rows-within, zero-row}
 use Rattle.sheet.specs.Gathering.{row-of, first-missing}
-
--- a cleared cell as plain numbers, to stand past the end of a list
-abbrev blank : PlainCell
-blank = plain cleared
 
 -- what holds of each element still does after one is written of which it holds
 pub each-set : {X : Type 0} (P : X → Type 0) (xs : List X) (i : ℕ) (x d : X) → i < length xs → ((k : ℕ) → P (getD xs k d)) → P x → (k : ℕ) → P (getD (set xs i x) k d)
