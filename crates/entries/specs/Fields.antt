@@ -6,11 +6,11 @@
 --   within n z             z is -n to n
 --   fieldChecks sizes e    the checks of the entry e, in the order of the table of refusals
 use Prim.Native.Nat.{ℕ, _%_}
-use lib.Dec.{eqb, leb}
-use lib.IntN.{ℤ, pos, natAbs}
+use lib.Dec.{eqb}
+use lib.IntN.{ℤ, pos, negℤ, natAbs}
 use lib.Signed.{leZ}
 use mathlib.Core.Bool.{Bool, cond, not, _&&_}
-use mathlib.Core.List.{List, [], _∷_}
+use mathlib.Core.List.{List, [], _∷_, _++_, map}
 use Rattle.std.specs.declared.option.Option.{Option}
 use Rattle.std.specs.declared.option.Option.the-variants.{Some, None}
 use Rattle.entries.specs.declared.entry.Entry.{Entry}
@@ -36,7 +36,7 @@ between least most z = leZ (pos least) z && leZ z (pos most)
 
 -- a magnitude of at most this
 abbrev pub within : ℕ → ℤ → Bool
-within most z = leb (natAbs z) most
+within most z = leZ (negℤ (pos most)) z && leZ z (pos most)
 
 -- 1: a party is one of the book's
 abbrev pub partyCheck : Sizes → ℤ → Check
@@ -87,20 +87,61 @@ readingKwh z = within 499999 z
 abbrev pub stages : ℤ → Bool
 stages z = between 1 3 z
 
--- the checks of an entry's fields: all of 1, then 2, 3, 4 and 5, and within a number in the order of the fields
+-- the parties that an entry names, a seller before a buyer
+abbrev pub partiesOf : Entry → List ℤ
+partiesOf (Deposit party haler) = party ∷ []
+partiesOf (Withdraw party haler) = party ∷ []
+partiesOf (Register day from to seller buyer kwh) = seller ∷ buyer ∷ []
+partiesOf (Market day from to seller buyer kwh price) = seller ∷ buyer ∷ []
+partiesOf (Close day) = []
+partiesOf (Regulate day hour party kwh price) = party ∷ []
+partiesOf (Meter day from to party kwh) = party ∷ []
+partiesOf (Evaluate day stage) = []
+
+-- the day that it names, if any
+abbrev pub dayOf : Entry → List ℤ
+dayOf (Deposit party haler) = []
+dayOf (Withdraw party haler) = []
+dayOf (Register day from to seller buyer kwh) = day ∷ []
+dayOf (Market day from to seller buyer kwh price) = day ∷ []
+dayOf (Close day) = day ∷ []
+dayOf (Regulate day hour party kwh price) = day ∷ []
+dayOf (Meter day from to party kwh) = day ∷ []
+dayOf (Evaluate day stage) = day ∷ []
+
+-- its hour or its range
+abbrev pub hourChecks : Entry → List Check
+hourChecks (Deposit party haler) = []
+hourChecks (Withdraw party haler) = []
+hourChecks (Register day from to seller buyer kwh) = rangeCheck from to ∷ []
+hourChecks (Market day from to seller buyer kwh price) = rangeCheck from to ∷ []
+hourChecks (Close day) = []
+hourChecks (Regulate day hour party kwh price) = hourCheck hour ∷ []
+hourChecks (Meter day from to party kwh) = rangeCheck from to ∷ []
+hourChecks (Evaluate day stage) = []
+
+-- its other fields, in their order
+abbrev pub valueChecks : Entry → List Check
+valueChecks (Deposit party haler) = valueCheck halers haler ∷ []
+valueChecks (Withdraw party haler) = valueCheck halers haler ∷ []
+valueChecks (Register day from to seller buyer kwh) = valueCheck registeredKwh kwh ∷ []
+valueChecks (Market day from to seller buyer kwh price) = valueCheck marketKwh kwh ∷ valueCheck marketPrice price ∷ []
+valueChecks (Close day) = []
+valueChecks (Regulate day hour party kwh price) = valueCheck regulatingKwh kwh ∷ valueCheck regulatingPrice price ∷ []
+valueChecks (Meter day from to party kwh) = valueCheck readingKwh kwh ∷ []
+valueChecks (Evaluate day stage) = valueCheck stages stage ∷ []
+
+-- its seller and buyer
+abbrev pub traderChecks : Entry → List Check
+traderChecks (Deposit party haler) = []
+traderChecks (Withdraw party haler) = []
+traderChecks (Register day from to seller buyer kwh) = tradersCheck seller buyer ∷ []
+traderChecks (Market day from to seller buyer kwh price) = tradersCheck seller buyer ∷ []
+traderChecks (Close day) = []
+traderChecks (Regulate day hour party kwh price) = []
+traderChecks (Meter day from to party kwh) = []
+traderChecks (Evaluate day stage) = []
+
+-- the checks of an entry's fields, row by row of the table of refusals: 1, 2, 3, 4 and 5
 abbrev pub fieldChecks : Sizes → Entry → List Check
-fieldChecks sizes (Deposit party haler) = partyCheck sizes party ∷ valueCheck halers haler ∷ []
-fieldChecks sizes (Withdraw party haler) = partyCheck sizes party ∷ valueCheck halers haler ∷ []
-fieldChecks sizes (Register day from to seller buyer kwh) =
-    partyCheck sizes seller ∷ partyCheck sizes buyer ∷ dayCheck sizes day ∷ rangeCheck from to
-    ∷ valueCheck registeredKwh kwh ∷ tradersCheck seller buyer ∷ []
-fieldChecks sizes (Market day from to seller buyer kwh price) =
-    partyCheck sizes seller ∷ partyCheck sizes buyer ∷ dayCheck sizes day ∷ rangeCheck from to
-    ∷ valueCheck marketKwh kwh ∷ valueCheck marketPrice price ∷ tradersCheck seller buyer ∷ []
-fieldChecks sizes (Close day) = dayCheck sizes day ∷ []
-fieldChecks sizes (Regulate day hour party kwh price) =
-    partyCheck sizes party ∷ dayCheck sizes day ∷ hourCheck hour
-    ∷ valueCheck regulatingKwh kwh ∷ valueCheck regulatingPrice price ∷ []
-fieldChecks sizes (Meter day from to party kwh) =
-    partyCheck sizes party ∷ dayCheck sizes day ∷ rangeCheck from to ∷ valueCheck readingKwh kwh ∷ []
-fieldChecks sizes (Evaluate day stage) = dayCheck sizes day ∷ valueCheck stages stage ∷ []
+fieldChecks sizes e = map (partyCheck sizes) (partiesOf e) ++ (map (dayCheck sizes) (dayOf e) ++ (hourChecks e ++ (valueChecks e ++ traderChecks e)))

@@ -4,7 +4,10 @@ ghost use mathlib.Core.Bool.{_&&_};
 ghost use lib.IntN.{pos};
 ghost use lib.Signed.{leZ};
 ghost use Rattle.entries.specs.declared.entry.Entry.the-variants.{Deposit, Withdraw, Register, Market, Close, Regulate, Meter, Evaluate};
-ghost use Rattle.entries.specs.Fields.{between, fieldChecks, firstOf, marketKwh, marketPrice, regulatingKwh};
+ghost use mathlib.Core.List.{_++_, map};
+ghost use Rattle.std.specs.Options.{mapped};
+ghost use Rattle.entries.specs.declared.refusal.Refusal.the-variants.{OutOfRange};
+ghost use Rattle.entries.specs.Fields.{between, dayCheck, dayOf, fieldChecks, firstOf, hourChecks, marketKwh, marketPrice, regulatingKwh, traderChecks, valueChecks};
 use super::entry::Entry;
 use super::entry::Sizes;
 use super::refusal::Refusal;
@@ -13,6 +16,10 @@ use super::refusal::Refusal;
 const MOST_HALERS: i64 = 1_000_000_000_000;
 // The most kWh of one trade or delivery in an hour, in magnitude.
 const MOST_KWH: i64 = 499_000;
+// The most kWh of a reading, in magnitude.
+const MOST_READ: i64 = 499_999;
+// The highest price in CZK/MWh, in magnitude.
+const MOST_PRICE: i64 = 99_999;
 
 fn between(least: i64, most: i64, number: i64) -> bool
     ensures { λ r. ⌜ r ≡ (leZ least number && leZ number most) ⌝ }
@@ -35,17 +42,50 @@ fn hours(from: i64, to: i64) -> bool
 fn market_kwh(kwh: i64) -> bool
     ensures { λ r. ⌜ r ≡ marketKwh kwh ⌝ }
 {
-    between(1_000, 499_000, kwh) && kwh.unsigned_abs() % 100 == 0
+    between(1_000, MOST_KWH, kwh) && kwh.unsigned_abs() % 100 == 0
 }
 
 fn market_price(price: i64) -> bool
     ensures { λ r. ⌜ r ≡ marketPrice price ⌝ }
 {
-    price.unsigned_abs() <= 99_999 && price != 0
+    between(-MOST_PRICE, MOST_PRICE, price) && price != 0
 }
 
 fn regulating_kwh(kwh: i64) -> bool
     ensures { λ r. ⌜ r ≡ regulatingKwh kwh ⌝ }
 {
-    kwh.unsigned_abs() <= 499_000 && kwh != 0
+    between(-MOST_KWH, MOST_KWH, kwh) && kwh != 0
+}
+
+// Row 5 of the table.
+fn seller_is_buyer(entry: &Entry) -> Option<Refusal>
+    ensures { λ r. ⌜ r ≡ firstOf (traderChecks (now (entry .entry))) ⌝ }
+{
+    match *entry {
+        Entry::Register { seller, buyer, .. } | Entry::Market { seller, buyer, .. } => {
+            if seller == buyer {
+                Some(Refusal::SellerIsBuyer { party: seller })
+            } else {
+                None
+            }
+        }
+        _ => None,
+    }
+}
+
+fn first_out_of_range(entry: &Entry) -> Option<i64>
+    ensures { λ r. ⌜ mapped OutOfRange r ≡ firstOf (valueChecks (now (entry .entry))) ⌝ }
+{
+    match *entry {
+        Entry::Deposit { haler, .. } | Entry::Withdraw { haler, .. }
+            if !between(1, MOST_HALERS, haler) => Some(haler),
+        Entry::Register { kwh, .. } if !between(1, MOST_KWH, kwh) => Some(kwh),
+        Entry::Market { kwh, .. } if !market_kwh(kwh) => Some(kwh),
+        Entry::Market { price, .. } if !market_price(price) => Some(price),
+        Entry::Regulate { kwh, .. } if !regulating_kwh(kwh) => Some(kwh),
+        Entry::Regulate { price, .. } if !between(-MOST_PRICE, MOST_PRICE, price) => Some(price),
+        Entry::Meter { kwh, .. } if !between(-MOST_READ, MOST_READ, kwh) => Some(kwh),
+        Entry::Evaluate { stage, .. } if !between(1, 3, stage) => Some(stage),
+        _ => None,
+    }
 }
