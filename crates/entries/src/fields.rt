@@ -58,34 +58,94 @@ fn regulating_kwh(kwh: i64) -> bool
 }
 
 // Row 5 of the table.
-fn seller_is_buyer(entry: &Entry) -> Option<Refusal>
+fn from_traders(entry: &Entry) -> Option<Refusal>
     ensures { λ r. ⌜ r ≡ firstOf (traderChecks (now (entry .entry))) ⌝ }
 {
     match *entry {
-        Entry::Register { seller, buyer, .. } | Entry::Market { seller, buyer, .. } => {
-            if seller == buyer {
-                Some(Refusal::SellerIsBuyer { party: seller })
-            } else {
-                None
-            }
-        }
+        Entry::Register { seller, buyer, .. } if seller == buyer => Some(Refusal::SellerIsBuyer {
+            party: seller,
+        }),
+        Entry::Market { seller, buyer, .. } if seller == buyer => Some(Refusal::SellerIsBuyer {
+            party: seller,
+        }),
         _ => None,
     }
 }
 
-fn first_out_of_range(entry: &Entry) -> Option<i64>
-    ensures { λ r. ⌜ mapped OutOfRange r ≡ firstOf (valueChecks (now (entry .entry))) ⌝ }
+// Rows 4 and 5.
+fn from_values(entry: &Entry) -> Option<Refusal>
+    ensures { λ r. ⌜ r ≡ firstOf (valueChecks (now (entry .entry)) ++ traderChecks (now (entry .entry))) ⌝ }
 {
     match *entry {
         Entry::Deposit { haler, .. } | Entry::Withdraw { haler, .. }
-            if !between(1, MOST_HALERS, haler) => Some(haler),
-        Entry::Register { kwh, .. } if !between(1, MOST_KWH, kwh) => Some(kwh),
-        Entry::Market { kwh, .. } if !market_kwh(kwh) => Some(kwh),
-        Entry::Market { price, .. } if !market_price(price) => Some(price),
-        Entry::Regulate { kwh, .. } if !regulating_kwh(kwh) => Some(kwh),
-        Entry::Regulate { price, .. } if !between(-MOST_PRICE, MOST_PRICE, price) => Some(price),
-        Entry::Meter { kwh, .. } if !between(-MOST_READ, MOST_READ, kwh) => Some(kwh),
-        Entry::Evaluate { stage, .. } if !between(1, 3, stage) => Some(stage),
-        _ => None,
+            if !between(1, MOST_HALERS, haler) => Some(Refusal::OutOfRange { given: haler }),
+        Entry::Register { kwh, .. } if !between(1, MOST_KWH, kwh) => Some(Refusal::OutOfRange {
+            given: kwh,
+        }),
+        Entry::Market { kwh, .. } if !market_kwh(kwh) => Some(Refusal::OutOfRange { given: kwh }),
+        Entry::Market { price, .. } if !market_price(price) => Some(Refusal::OutOfRange {
+            given: price,
+        }),
+        Entry::Regulate { kwh, .. } if !regulating_kwh(kwh) => Some(Refusal::OutOfRange {
+            given: kwh,
+        }),
+        Entry::Regulate { price, .. } if !between(-MOST_PRICE, MOST_PRICE, price) =>
+            Some(Refusal::OutOfRange { given: price }),
+        Entry::Meter { kwh, .. } if !between(-MOST_READ, MOST_READ, kwh) =>
+            Some(Refusal::OutOfRange { given: kwh }),
+        Entry::Evaluate { stage, .. } if !between(1, 3, stage) => Some(Refusal::OutOfRange {
+            given: stage,
+        }),
+        _ => from_traders(entry),
+    }
+}
+
+// Rows 3 to 5.
+fn from_hours(entry: &Entry) -> Option<Refusal>
+    ensures { λ r. ⌜ r ≡ firstOf (hourChecks (now (entry .entry)) ++ (valueChecks (now (entry .entry)) ++ traderChecks (now (entry .entry)))) ⌝ }
+{
+    match *entry {
+        Entry::Register { from, to, .. }
+        | Entry::Market { from, to, .. }
+        | Entry::Meter { from, to, .. }
+            if !hours(from, to) => Some(Refusal::HourOrRange { from }),
+        Entry::Regulate { hour, .. } if !between(1, 24, hour) => Some(Refusal::HourOrRange {
+            from: hour,
+        }),
+        _ => from_values(entry),
+    }
+}
+
+// Rows 2 to 5.
+fn from_day(sizes: &Sizes, entry: &Entry) -> Option<Refusal>
+    ensures { λ r. ⌜ r ≡ firstOf (map (dayCheck (now (sizes .entry))) (dayOf (now (entry .entry))) ++ (hourChecks (now (entry .entry)) ++ (valueChecks (now (entry .entry)) ++ traderChecks (now (entry .entry))))) ⌝ }
+{
+    match *entry {
+        Entry::Register { day, .. }
+        | Entry::Market { day, .. }
+        | Entry::Close { day }
+        | Entry::Regulate { day, .. }
+        | Entry::Meter { day, .. }
+        | Entry::Evaluate { day, .. }
+            if !known(sizes.days, day) => Some(Refusal::UnknownDay { day }),
+        _ => from_hours(entry),
+    }
+}
+
+// The first refusal that the entry's fields give, if any.
+pub fn check_fields(sizes: &Sizes, entry: &Entry) -> Option<Refusal>
+    ensures { λ r. ⌜ r ≡ firstOf (fieldChecks (now (sizes .entry)) (now (entry .entry))) ⌝ }
+{
+    match *entry {
+        Entry::Deposit { party, .. }
+        | Entry::Withdraw { party, .. }
+        | Entry::Regulate { party, .. }
+        | Entry::Meter { party, .. }
+            if !known(sizes.parties, party) => Some(Refusal::UnknownParty { party }),
+        Entry::Register { seller, .. } | Entry::Market { seller, .. }
+            if !known(sizes.parties, seller) => Some(Refusal::UnknownParty { party: seller }),
+        Entry::Register { buyer, .. } | Entry::Market { buyer, .. }
+            if !known(sizes.parties, buyer) => Some(Refusal::UnknownParty { party: buyer }),
+        _ => from_day(sizes, entry),
     }
 }

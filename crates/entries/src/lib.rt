@@ -10,6 +10,7 @@ pub mod refusal;
 
 use entry::DayState;
 use entry::Entry;
+pub use fields::check_fields;
 use refusal::Refusal;
 
 impl DayState {
