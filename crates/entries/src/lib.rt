@@ -7,6 +7,8 @@ ghost use Rattle.entries.specs.States.{number-of, moved};
 pub mod entry;
 mod fields;
 pub mod refusal;
+#[cfg(test)]
+mod tests;
 
 use entry::DayState;
 use entry::Entry;
