@@ -1,6 +1,5 @@
 // The entries of a book, the states of a day, and the refusals that need no more than these (docs/RULES.md, "Entries", "Which state admits what", "Refusals").
 ghost use mathlib.Core.Path.{_≡_};
-ghost use lib.IntN.{pos};
 ghost use Rattle.entries.specs.Refusals.{told};
 ghost use Rattle.entries.specs.States.{number-of, moved};
 
