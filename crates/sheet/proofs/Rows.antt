@@ -9,7 +9,7 @@ use mathlib.Core.Path.{_≡_, refl, sym, ap, subst, _∙_}
 use Rattle.std.specs.Options.{isSome}
 use Rattle.std.specs.declared.option.Option.{Option}
 use Rattle.std.specs.declared.option.Option.the-variants.{Some, None}
-use Rattle.std.proofs.shelf.Lists.{take-more-set, map-more, map-push, getD-set-same, getD-set-other, at-drop-more, at-drop-all, getD-take, getD-past, length-take}
+use Rattle.std.proofs.shelf.Lists.{getD-set-same, getD-set-other, at-drop-more, at-drop-all, getD-take, getD-past, length-take}
 use Rattle.std.proofs.shelf.Tests.{cases-eq, cases-lt, cond-true, cond-false}
 use Rattle.hourly.specs.declared.plain.PlainCell.{PlainCell}
 use Rattle.hourly.specs.Cells.{CellFigures, blank, read}
@@ -25,13 +25,10 @@ each-set P xs i x d h all here k =
     (λ n. subst P (sym (getD-set-other xs i k x d n)) (all k))
     (cases-eq k i)
 
--- one more row
-pub rows-more : (rows : List Row) (cells : List PlainCell) (i : ℕ) (r : Row) → i < length cells → i < length rows → take i rows ≡ map row-of (map read (take i cells)) → r ≡ row-of (read (getD cells i blank)) → take (i + 1) (set rows i r) ≡ map row-of (map read (take (i + 1) cells))
-rows-more rows cells i r hc hr e v =
-    take-more-set rows i r hr
-    ∙ ap (λ (xs : List Row). xs ++ r ∷ []) e
-    ∙ ap (λ (x : Row). map row-of (map read (take i cells)) ++ x ∷ []) v
-    ∙ sym (ap (map row-of) (map-more read cells i blank hc) ∙ map-push row-of (map read (take i cells)) (read (getD cells i blank)))
+-- the rows of cells, read one by one
+pub rows-read : (cells : List PlainCell) → map (λ (p : PlainCell). row-of (read p)) cells ≡ map row-of (map read cells)
+rows-read [] = refl
+rows-read (p ∷ cells) = ap (λ (rows : List Row). row-of (read p) ∷ rows) (rows-read cells)
 
 -- the first missing reading, by the cell at i
 pub missing-here : (cells : List PlainCell) (i : ℕ) → i < length cells → isSome (read (getD cells i blank) .reading) ≡ false → first-missing (i + 1) (map read (drop i cells)) ≡ Some (i + 1)

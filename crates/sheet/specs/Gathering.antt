@@ -1,11 +1,11 @@
 -- Gathering a sheet from the cells of an hour. Assumes nothing.
-use Prim.Native.Nat.{ℕ, _+_, _*_}
+use Prim.Native.Nat.{ℕ, _+_, _-_, _*_}
 use lib.Dec.{leb}
 use lib.IntN.{ℤ, pos, natAbs}
-use lib.ListN.{length, take}
+use lib.ListN.{length, replicate, take}
 use lib.Signed.{leZ}
 use mathlib.Core.Bool.{Bool, cond, true, false, _&&_}
-use mathlib.Core.List.{List, [], _∷_, map}
+use mathlib.Core.List.{List, [], _∷_, _++_, map}
 use Rattle.std.specs.declared.option.Option.{Option}
 use Rattle.std.specs.declared.option.Option.the-variants.{Some, None}
 use Rattle.std.specs.Options.{isSome, valueOr}
@@ -15,6 +15,7 @@ use Rattle.sheet.specs.declared.row.Row.{Row}
 use Rattle.sheet.specs.declared.row.SheetRefusal.{SheetRefusal}
 use Rattle.sheet.specs.declared.row.SheetRefusal.the-variants.{Parties, Hour, Reading}
 use Rattle.sheet.specs.declared.gathered.Gathered.{Gathered}
+use Rattle.sheet.specs.Bounds.{zero-row}
 use Rattle.sheet.specs.Evaluation.{HourFacts}
 
 -- number and place of a refusal
@@ -52,6 +53,10 @@ row-of c = record { position = c .position; regulating = c .regulating; tenths =
 -- the rows of a sheet: those of its cells, or none where a refusal was met
 abbrev pub rows-gathered : ℤ → List CellFigures → List Row
 rows-gathered hour cells = cond (isSome (gather-refusal hour cells)) [] (map row-of cells)
+
+-- rows on a page of 20 places, with rows of zeros past the last
+abbrev pub row-page : List Row → List Row
+row-page rows = rows ++ replicate (20 - length rows) zero-row
 
 -- what a gathered sheet knows of its hour
 abbrev pub facts : Gathered → HourFacts

@@ -7,7 +7,7 @@ ghost use Rattle.std.specs.declared.option.Option.the-variants.{None};
 ghost use Rattle.hourly.specs.Cells.{read};
 ghost use Rattle.hourly.specs.Records.{record-read};
 ghost use Rattle.sheet.specs.Bounds.{Row-within, Rows-within, zero-row};
-ghost use Rattle.sheet.specs.Gathering.{facts, first-missing, gather-refusal, row-of, rows-gathered, told};
+ghost use Rattle.sheet.specs.Gathering.{facts, first-missing, gather-refusal, row-of, row-page, rows-gathered, told};
 use super::gathered::Gathered;
 use super::row::Row;
 use super::row::SheetRefusal;
@@ -69,6 +69,7 @@ fn no_rows() -> [Row; 20]
 // The rows of the cells, and rows of zeros past them.
 fn rows_of(cells: &[PlainCell]) -> [Row; 20]
     requires { ⌜ length (now cells) ≤ 20 ⌝ }
+    ensures page { λ r. ⌜ r ≡ row-page (map row-of (map read (now (cells .entry)))) ⌝ }
     ensures value { λ r. ⌜ take (length (now (cells .entry))) r ≡ map row-of (map read (now (cells .entry))) ⌝ }
     ensures within { λ r. ⌜ Rows-within r ⌝ }
 {
@@ -117,6 +118,7 @@ impl Gathered {
     pub fn gather(hour: i64, cells: &[PlainCell], deliveries: &PlainRecord) -> Gathered
         ensures refusal { λ r. ⌜ r .refusal ≡ gather-refusal hour (map read (now (cells .entry))) ⌝ }
         ensures rows { λ r. ⌜ facts r .rows ≡ rows-gathered hour (map read (now (cells .entry))) ⌝ }
+        ensures page { λ r. ⌜ r .rows ≡ row-page (rows-gathered hour (map read (now (cells .entry)))) ⌝ }
         ensures deliveries { λ r. ⌜ facts r .deliveries ≡ record-read (now (deliveries .entry)) ⌝ }
     {
         let deliveries = HourRecord::from_plain(deliveries);

@@ -28,7 +28,7 @@ loop-i-again g c =
     let ys = map f (take i rows) in
     let l : i < length ps = omega (arith, ap length (c .loop-i .inv .0), length-page ys (omega (arith, length-map (take i rows) f, length-take i rows, c .pre .few)), c .pre .few) in
     let small = subst (λ (x : ℤ). natAbs x ≤ n) (sym v) (g .F·Figure·met .limited (c .args .figure .now) _ (c .pre .within i)) in (
-      column-more f rows i zero-row ps _ (c .loop-i-test .taken) (c .pre .few) (c .loop-i .inv .0) v,
+      column-more (pos 0) f rows i zero-row ps _ (c .loop-i-test .taken) (c .pre .few) (c .loop-i .inv .0) v,
       each-set (λ (x : ℤ). natAbs x ≤ n) ps i _ (pos 0) l (c .loop-i .inv .1) small,
     )
 
