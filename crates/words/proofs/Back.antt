@@ -19,7 +19,8 @@ use Rattle.brackets.specs.declared.BracketFault.the-variants.{Long, Byte, Shape
 use Rattle.brackets.specs.Bytes.{Letter, Digit, letter, admitted, Admitted, Clean}
 use Rattle.brackets.specs.Grammar.{Word, Field, GoodField, rest, text, IsForm}
 use Rattle.words.specs.declared.form.Form.{Form}
-use Rattle.words.specs.declared.form.Form.the-variants.{Book, Deposit, Withdraw, Register, Market, Close, Regulate, Meter, Evaluate, Show}
+use Rattle.words.specs.declared.form.Form.the-variants.{Book, Entry as Entered, Show}
+use Rattle.entries.specs.declared.entry.Entry.the-variants.{Deposit, Withdraw, Register, Market, Close, Regulate, Meter, Evaluate}
 use Rattle.words.specs.declared.reading.Kind.{Kind}
 use Rattle.words.specs.declared.reading.Kind.the-variants.{Book as book, Deposit as deposit, Withdraw as withdraw, Register as register, Market as market, Close as close, Regulate as regulate, Meter as meter, Evaluate as evaluate, Show as show}
 use Rattle.words.specs.declared.faults.WordFault.{WordFault}
@@ -112,14 +113,14 @@ one-kind j k e = sym (from-head j) ∙ ap kindFrom e ∙ from-head k
 
 as-many : (f : Form) → length (fieldNames (kindOf f)) ≡ length (numbersOf f)
 as-many (Book a b c d e) = refl
-as-many (Deposit a b) = refl
-as-many (Withdraw a b) = refl
-as-many (Register a b c d e f) = refl
-as-many (Market a b c d e f g) = refl
-as-many (Close a) = refl
-as-many (Regulate a b c d e) = refl
-as-many (Meter a b c d e) = refl
-as-many (Evaluate a b) = refl
+as-many (Entered (Deposit a b)) = refl
+as-many (Entered (Withdraw a b)) = refl
+as-many (Entered (Register a b c d e f)) = refl
+as-many (Entered (Market a b c d e f g)) = refl
+as-many (Entered (Close a)) = refl
+as-many (Entered (Regulate a b c d e)) = refl
+as-many (Entered (Meter a b c d e)) = refl
+as-many (Entered (Evaluate a b)) = refl
 as-many (Show a) = refl
 
 abbrev at : List ℤ → ℕ → ℤ
@@ -128,26 +129,26 @@ at zs i = getD zs i (pos 0)
 -- a form is its kind and its numbers
 abbrev rebuilt : Kind → List ℤ → Form
 rebuilt book v = Book (at v 0) (at v 1) (at v 2) (at v 3) (at v 4)
-rebuilt deposit v = Deposit (at v 0) (at v 1)
-rebuilt withdraw v = Withdraw (at v 0) (at v 1)
-rebuilt register v = Register (at v 0) (at v 1) (at v 2) (at v 3) (at v 4) (at v 5)
-rebuilt market v = Market (at v 0) (at v 1) (at v 2) (at v 3) (at v 4) (at v 5) (at v 6)
-rebuilt close v = Close (at v 0)
-rebuilt regulate v = Regulate (at v 0) (at v 1) (at v 2) (at v 3) (at v 4)
-rebuilt meter v = Meter (at v 0) (at v 1) (at v 2) (at v 3) (at v 4)
-rebuilt evaluate v = Evaluate (at v 0) (at v 1)
+rebuilt deposit v = Entered (Deposit (at v 0) (at v 1))
+rebuilt withdraw v = Entered (Withdraw (at v 0) (at v 1))
+rebuilt register v = Entered (Register (at v 0) (at v 1) (at v 2) (at v 3) (at v 4) (at v 5))
+rebuilt market v = Entered (Market (at v 0) (at v 1) (at v 2) (at v 3) (at v 4) (at v 5) (at v 6))
+rebuilt close v = Entered (Close (at v 0))
+rebuilt regulate v = Entered (Regulate (at v 0) (at v 1) (at v 2) (at v 3) (at v 4))
+rebuilt meter v = Entered (Meter (at v 0) (at v 1) (at v 2) (at v 3) (at v 4))
+rebuilt evaluate v = Entered (Evaluate (at v 0) (at v 1))
 rebuilt show v = Show (at v 0)
 
 rebuilt-is : (f : Form) → rebuilt (kindOf f) (numbersOf f) ≡ f
 rebuilt-is (Book a b c d e) = refl
-rebuilt-is (Deposit a b) = refl
-rebuilt-is (Withdraw a b) = refl
-rebuilt-is (Register a b c d e f) = refl
-rebuilt-is (Market a b c d e f g) = refl
-rebuilt-is (Close a) = refl
-rebuilt-is (Regulate a b c d e) = refl
-rebuilt-is (Meter a b c d e) = refl
-rebuilt-is (Evaluate a b) = refl
+rebuilt-is (Entered (Deposit a b)) = refl
+rebuilt-is (Entered (Withdraw a b)) = refl
+rebuilt-is (Entered (Register a b c d e f)) = refl
+rebuilt-is (Entered (Market a b c d e f g)) = refl
+rebuilt-is (Entered (Close a)) = refl
+rebuilt-is (Entered (Regulate a b c d e)) = refl
+rebuilt-is (Entered (Meter a b c d e)) = refl
+rebuilt-is (Entered (Evaluate a b)) = refl
 rebuilt-is (Show a) = refl
 
 pub one-form : (f g : Form) → kindOf f ≡ kindOf g → numbersOf f ≡ numbersOf g → f ≡ g

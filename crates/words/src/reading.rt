@@ -25,6 +25,7 @@ use crate::faults::WordFault;
 use crate::faults::WordFromBracket;
 use crate::form::Form;
 use brackets::brackets;
+use entries::entry::Entry;
 
 // The value of at most 18 digits.
 fn magnitude(digits: &[u8]) -> i64
@@ -258,21 +259,21 @@ fn register(v: &[i64; 8]) -> Form
     ensures kind { λ r. ⌜ kindOf r ≡ Kind.Register ⌝ }
     ensures numbers { λ r. ⌜ numbersOf r ≡ take 6 (now (v .entry)) ⌝ }
 {
-    Form::Register {
+    Form::Entry(Entry::Register {
         day: v[0],
         from: v[1],
         to: v[2],
         seller: v[3],
         buyer: v[4],
         kwh: v[5],
-    }
+    })
 }
 
 fn market(v: &[i64; 8]) -> Form
     ensures kind { λ r. ⌜ kindOf r ≡ Kind.Market ⌝ }
     ensures numbers { λ r. ⌜ numbersOf r ≡ take 7 (now (v .entry)) ⌝ }
 {
-    Form::Market {
+    Form::Entry(Entry::Market {
         day: v[0],
         from: v[1],
         to: v[2],
@@ -280,33 +281,33 @@ fn market(v: &[i64; 8]) -> Form
         buyer: v[4],
         kwh: v[5],
         price: v[6],
-    }
+    })
 }
 
 fn regulate(v: &[i64; 8]) -> Form
     ensures kind { λ r. ⌜ kindOf r ≡ Kind.Regulate ⌝ }
     ensures numbers { λ r. ⌜ numbersOf r ≡ take 5 (now (v .entry)) ⌝ }
 {
-    Form::Regulate {
+    Form::Entry(Entry::Regulate {
         day: v[0],
         hour: v[1],
         party: v[2],
         kwh: v[3],
         price: v[4],
-    }
+    })
 }
 
 fn meter(v: &[i64; 8]) -> Form
     ensures kind { λ r. ⌜ kindOf r ≡ Kind.Meter ⌝ }
     ensures numbers { λ r. ⌜ numbersOf r ≡ take 5 (now (v .entry)) ⌝ }
 {
-    Form::Meter {
+    Form::Entry(Entry::Meter {
         day: v[0],
         from: v[1],
         to: v[2],
         party: v[3],
         kwh: v[4],
-    }
+    })
 }
 
 // The form of this kind with these numbers.
@@ -322,23 +323,23 @@ fn form_of(kind: Kind, v: &[i64; 8]) -> Form
             default: v[3],
             sharing: v[4],
         },
-        Kind::Deposit => Form::Deposit {
+        Kind::Deposit => Form::Entry(Entry::Deposit {
             party: v[0],
             haler: v[1],
-        },
-        Kind::Withdraw => Form::Withdraw {
+        }),
+        Kind::Withdraw => Form::Entry(Entry::Withdraw {
             party: v[0],
             haler: v[1],
-        },
+        }),
         Kind::Register => register(v),
         Kind::Market => market(v),
-        Kind::Close => Form::Close { day: v[0] },
+        Kind::Close => Form::Entry(Entry::Close { day: v[0] }),
         Kind::Regulate => regulate(v),
         Kind::Meter => meter(v),
-        Kind::Evaluate => Form::Evaluate {
+        Kind::Evaluate => Form::Entry(Entry::Evaluate {
             day: v[0],
             stage: v[1],
-        },
+        }),
         Kind::Show => Form::Show { party: v[0] },
     }
 }

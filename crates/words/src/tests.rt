@@ -1,13 +1,14 @@
 use crate::faults::Told;
 use crate::form::Form;
 use crate::reading::read;
+use entries::entry::Entry;
 use std::test::*;
 
 // The number and the place of a refusal; 0 and the last number for a form.
 fn told(line: &[u8]) -> (u8, i64) {
     match read(line) {
-        Ok(Form::Deposit { party: _, haler }) => (0, haler),
-        Ok(Form::Market { price, .. }) => (0, price),
+        Ok(Form::Entry(Entry::Deposit { party: _, haler })) => (0, haler),
+        Ok(Form::Entry(Entry::Market { price, .. })) => (0, price),
         Ok(_) => (0, 0),
         Err(f) => {
             let Told {
