@@ -1,4 +1,6 @@
 // The answers to the lines of a journal and their text (docs/RULES.md, "Answers").
+#![tactic(auto)]
+
 #[cfg(test)]
 mod tests;
 mod writer;

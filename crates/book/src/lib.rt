@@ -1,4 +1,6 @@
 // The book of a market area (docs/RULES.md, "Parties, days and pages" to "Which state admits what", "Cover").
+#![tactic(auto)]
+
 ghost use Rattle.std.specs.Prelude.{◌≡◌, ◌+◌, ◌-◌, ◌*◌, ◌/◌, ◌<◌, ◌≤◌, true, length, neg_ℤ, slice_index_or, slice_set, unsigned_abs};
 ghost use Rattle.std.specs.Option.{unwrap_or};
 ghost use Rattle.hourly.specs.Bounds.{within};

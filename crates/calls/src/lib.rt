@@ -1,4 +1,6 @@
 // The calls that make one kind of entry each (docs/RULES.md, "Entries"). Fields are the numbers as given, of whatever size.
+#![tactic(auto)]
+
 ghost use Rattle.std.specs.Prelude.{◌≡◌};
 ghost use Rattle.entries.specs.declared.entry.Entry.TheVariants.{Close, Deposit, Market, Meter, Register, Regulate, Withdraw};
 ghost use Rattle.book.specs.Standing.{terms};

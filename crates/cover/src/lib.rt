@@ -1,4 +1,6 @@
 // Cover (docs/RULES.md, "Cover"): parametric prices, and what a party needs for the positions of its days.
+#![tactic(auto)]
+
 ghost use Rattle.std.specs.Prelude.{◌≡◌, ◌+◌, ◌*◌, ◌<◌, ◌≤◌, true, length, pos, if◌then◌else◌, Some, None, unsigned_abs};
 ghost use Rattle.std.specs.Option.{option_map};
 ghost use Rattle.hourly.specs.Cells.{read};

@@ -1,4 +1,6 @@
 // Tests of the leaves at the edges of their ranges and at each refusal. The contracts say all of this and more; these run it.
+#![tactic(auto)]
+
 #[cfg(test)]
 mod tests {
     use hourly::cell::Cell;

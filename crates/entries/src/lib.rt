@@ -1,4 +1,6 @@
 // The entries of a book, the states of a day, and the refusals that need no more than these (docs/RULES.md, "Entries", "Which state admits what", "Refusals").
+#![tactic(auto)]
+
 ghost use Rattle.std.specs.Prelude.{◌≡◌};
 ghost use Rattle.entries.specs.Refusals.{told};
 ghost use Rattle.entries.specs.States.{number_of, moved};

@@ -1,4 +1,6 @@
 // A book and the history of its entries (docs/RULES.md, "Histories"), for the kinds of entry that a book takes today.
+#![tactic(auto)]
+
 ghost use Rattle.std.specs.Prelude.{◌≡◌};
 ghost use Rattle.book.specs.Held.{held};
 ghost use Rattle.book.specs.Posting.{afterwards, reply_on};

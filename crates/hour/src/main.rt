@@ -1,4 +1,6 @@
 // Evaluates the worked hours and some more, from the first step to the last, and prints every step as a table.
+#![tactic(auto)]
+
 use hourly::plain::{PlainCell, PlainDeliveries, PlainRecord};
 use hourly::record::HourRecord;
 use pricing::Pricing;

@@ -1,4 +1,6 @@
 // A party's hour and the record of an hour's regulating deliveries: types of which no value is out of bounds, and the plain numbers that they lie as on a page.
+#![tactic(auto)]
+
 ghost use Rattle.std.specs.Prelude.{◌≡◌, ◌+◌, ◌≤◌, true, false, ℤ, pos, ◌*ℤ◌, IfSome, if◌then◌else◌, Some, None, unsigned_abs};
 ghost use Rattle.std.specs.Option.{option_map};
 ghost use Rattle.hourly.specs.declared.deliveries.Deliveries.{Deliveries};

@@ -1,4 +1,6 @@
 // A journal: each line of its input is read layer by layer and answered (docs/RULES.md, "The journal's form" and "Answers").
+#![tactic(auto)]
+
 mod input;
 mod journal;
 mod opening;

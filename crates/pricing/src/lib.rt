@@ -1,4 +1,6 @@
 // Pricing rules (docs/RULES.md, "Pricing rules"): a rule stands for one map from system imbalance and hour record to long and short price.
+#![tactic(auto)]
+
 ghost use Rattle.std.specs.Prelude.{◌≡◌, if◌then◌else◌, Some, None, Ok, Err, nat_le, unsigned_abs};
 ghost use Rattle.std.specs.Option.{option_map};
 ghost use Rattle.hourly.specs.Records.{record_figures};

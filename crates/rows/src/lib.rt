@@ -1,4 +1,6 @@
 // What entries do to the cells of a row, and pages cleared (docs/RULES.md, "Cells", "Hour records", "Entries").
+#![tactic(auto)]
+
 ghost use Rattle.std.specs.Prelude.{◌≡◌, ◌≤◌, ◌&&◌, leb, map, length, replicate, ◌+ℤ◌, ◌*ℤ◌, if◌then◌else◌, Some, None, nat_le, unsigned_abs};
 ghost use Rattle.std.specs.Option.{option_map};
 ghost use Rattle.hourly.specs.Cells.{CellFigures, blank, figures, plain};

@@ -1,4 +1,6 @@
 // The rules in use, picked by their numbers (docs/RULES.md, "book and show").
+#![tactic(auto)]
+
 ghost use Rattle.std.specs.Prelude.{◌≡◌, ◌≤◌, leb, ℤ, pos, if◌then◌else◌, nat_le, unsigned_abs};
 ghost use Rattle.entries.specs.Fields.{first_of};
 ghost use Rattle.hourly.specs.Records.{record_figures};

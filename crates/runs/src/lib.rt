@@ -1,4 +1,6 @@
 // A book over whole lists of entries: what holds whatever they are, and a call that enters such a list (docs/RULES.md, "Parties, days and pages" to "Cover").
+#![tactic(auto)]
+
 ghost use Rattle.std.specs.Prelude.{◌≡◌, ◌≤◌, true, length};
 ghost use Rattle.book.specs.Held.{held};
 ghost use Rattle.book.specs.Opening.{sizes_of};

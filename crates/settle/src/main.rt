@@ -1,4 +1,6 @@
 // Answers the lines of standard input on standard output (docs/RULES.md, "The journal's form" and "Answers").
+#![tactic(auto)]
+
 ghost use Rattle.std.specs.Prelude.{ℕ, ◌≤◌, List, length, OnOk};
 ghost use Rattle.journal.specs.Lines.{Runs};
 

@@ -1,5 +1,7 @@
 // Sharing a remainder over weights (docs/RULES.md, "Sharing rules").
 // A sharing rule is a trait; each rule has a file named after it, and what both share stands here.
+#![tactic(auto)]
+
 ghost use Rattle.std.specs.Prelude.{◌≡◌, ℕ, ◌*◌, ◌/◌, ◌≤◌, List, map as mapped, length, take, ℤ, slice_index};
 ghost use Rattle.sharing.specs.Laws.{Lawful};
 ghost use Rattle.sharing.specs.Limits.{in_range, refusal, weight_refusal, answer, afterwards, magnitudes, Admits};

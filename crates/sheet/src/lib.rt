@@ -1,4 +1,6 @@
 // One hour, evaluated (docs/RULES.md, "One hour, evaluated"): a sheet is gathered, then priced, then balanced, and each step uses up the sheet before it.
+#![tactic(auto)]
+
 ghost use Rattle.std.specs.Prelude.{◌≡◌, ℕ, ◌*◌, ◌≤◌, map, length, ℤ, unsigned_abs};
 ghost use Rattle.units.specs.Sums.{page, sum_z};
 ghost use Rattle.sheet.specs.Bounds.{RowWithin, RowsWithin, Within};

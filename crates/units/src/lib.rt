@@ -1,5 +1,7 @@
 // Tenths of a haler and halers (docs/RULES.md, "Units and signs" and "Rounding").
 // The crates above share its definitions of rounding, sums and pages of 20, and its lemmas on them.
+#![tactic(auto)]
+
 ghost use Rattle.std.specs.Prelude.{◌≡◌, ◌≤◌, ◌&&◌, leb, ◌*ℤ◌, if◌then◌else◌, Some, None, nat_le, unsigned_abs};
 ghost use Rattle.units.specs.Rounding.{rounded, Nearest};
 

@@ -1,4 +1,6 @@
 // Layer 2, words: a line's head, field names and numbers, as a typed form (docs/RULES.md, "The journal's form" and "Refusals").
+#![tactic(auto)]
+
 mod faults;
 mod form;
 mod reading;

@@ -1,4 +1,6 @@
 // The worked figures as one theorem, and the worked hours as plain numbers for whoever wants to evaluate them.
+#![tactic(auto)]
+
 ghost use Rattle.std.specs.Prelude.{◌≡◌, ◌≤◌, map, unsigned_abs};
 ghost use Rattle.hourly.specs.Cells.{read};
 ghost use Rattle.worked.specs.Figures.{Figures, metered, worked_cells};
