@@ -11,8 +11,8 @@ loop-day-preserved c =
     let kwh = position_in c.args.cells.now in
     elim c.if-counted.branch [
       | then-counted w ↦ (
-        day_adds ps counts kwh c.loop-day.day c.loop-day.tenths w.day-tenths-tenths.result _ w.if-counted.true c.loop-day.invariant.0 w.day-tenths-tenths.ensures.value w.tenths-is,
-        omega (arith, w.tenths-is, c.loop-day.invariant.1, w.day-tenths-tenths.ensures.bound),
+        day_adds ps counts kwh c.loop-day.day c.loop-day.tenths w.day_tenths-tenths.result _ w.if-counted.true c.loop-day.invariant.0 w.day_tenths-tenths.ensures.value w.tenths-is,
+        omega (arith, w.tenths-is, c.loop-day.invariant.1, w.day_tenths-tenths.ensures.bound),
       )
       | else-counted w ↦ (
         day_passes ps counts kwh c.loop-day.day c.loop-day.tenths _ w.if-counted.false c.loop-day.invariant.0 w.tenths-is,
