@@ -9,12 +9,12 @@ pub exposure-tenths-requires : goal.exposure-tenths-requires
 exposure-tenths-requires c =
     let table = c.args.prices.now in
     let small = price_small table.hours table.priced c.loop-hour.hour in
-    let z = c.position-with-position.result in
+    let z = c.position_with-position.result in
     let same : to_z w64 (of_z w64 z) ≡ z = search rules in
     record {
       short = small.0;
       long = small.1;
-      placed = subst (λ (x : ℤ). nat_abs x ≤ 998999) (sym same) c.position-with-position.ensures.placed;
+      placed = subst (λ (x : ℤ). nat_abs x ≤ 998999) (sym same) c.position_with-position.ensures.placed;
     }
 
 pub loop-hour-preserved : goal.loop-hour-preserved
@@ -22,9 +22,9 @@ loop-hour-preserved c =
     let ps = c.args.prices.now.hours in
     let hour = c.loop-hour.hour in
     let f : ℕ → ℕ = λ h. exposure (price_at ps h) (position_with c.args.cells.now c.args.trade.now.start c.args.trade.now.end c.args.trade.now.kwh c.args.day h) in
-    let z = c.position-with-position.result in
+    let z = c.position_with-position.result in
     let same : to_z w64 (of_z w64 z) ≡ z = search rules in
-    let v : c.exposure-tenths.result ≡ f hour = c.exposure-tenths.ensures.value ∙ ap (exposure (price_at ps hour)) (same ∙ c.position-with-position.ensures.value) in (
+    let v : c.exposure-tenths.result ≡ f hour = c.exposure-tenths.ensures.value ∙ ap (exposure (price_at ps hour)) (same ∙ c.position_with-position.ensures.value) in (
       ap (λ (t : ℕ). t + c.exposure-tenths.result) c.loop-hour.invariant.0 ∙ ap (λ (t : ℕ). total f hour + t) v ∙ sym (total_more f hour),
       omega (arith, c.loop-hour.invariant.1, c.exposure-tenths.ensures.bound),
     )

@@ -9,8 +9,8 @@ returns-then-position-lt0 c =
     let p = c.args.prices.now in
     let z = c.args.position in
     let same : to_z w64 (of_z w64 z) ≡ z = search rules in
-    let e : c.unsigned-abs-kwh.result * p.long ≡ exposure p z =
-    ap (λ (k : ℕ). k * p.long) (c.unsigned-abs-kwh.ensures.value ∙ ap nat_abs same)
+    let e : c.unsigned_abs-kwh.result * p.long ≡ exposure p z =
+    ap (λ (k : ℕ). k * p.long) (c.unsigned_abs-kwh.ensures.value ∙ ap nat_abs same)
     ∙ bought p z (sym (ap (λ (x : ℤ). lt_z x (pos 0)) same) ∙ c.if-position-lt0.true) in
     record { value = e; bound = subst (λ (k : ℕ). k ≤ 99898901001) (sym e) (exposure_small p z c.requires.short c.requires.long c.requires.placed) }
 
@@ -19,7 +19,7 @@ returns-else-position-lt0 c =
     let p = c.args.prices.now in
     let z = c.args.position in
     let same : to_z w64 (of_z w64 z) ≡ z = search rules in
-    let e : c.unsigned-abs-kwh.result * p.short ≡ exposure p z =
-    ap (λ (k : ℕ). k * p.short) (c.unsigned-abs-kwh.ensures.value ∙ ap nat_abs same)
+    let e : c.unsigned_abs-kwh.result * p.short ≡ exposure p z =
+    ap (λ (k : ℕ). k * p.short) (c.unsigned_abs-kwh.ensures.value ∙ ap nat_abs same)
     ∙ sold p z (sym (ap (λ (x : ℤ). lt_z x (pos 0)) same) ∙ c.if-position-lt0.false) in
     record { value = e; bound = subst (λ (k : ℕ). k ≤ 99898901001) (sym e) (exposure_small p z c.requires.short c.requires.long c.requires.placed) }

@@ -10,5 +10,5 @@ returns c =
     let d = c.args.self.now in
     let cell = c.args.cell.now in
     let k : to_z w64 (of_z w64 (to_z w64 (of_z w64 cell.regulating) +ℤ to_z w64 (of_z w64 d.kwh))) ≡ cell.regulating +ℤ d.kwh = search rules in
-    let t : to_z w64 (of_z w64 c.tenths-after.result) ≡ cell.tenths +ℤ d.kwh *ℤ d.price = search rules in
-    ap₂ (with c.to-plain-plain.result) k t ∙ ap (λ (p : PlainCell). with p (cell.regulating +ℤ d.kwh) (cell.tenths +ℤ d.kwh *ℤ d.price)) c.to-plain-plain.ensures.value
+    let t : to_z w64 (of_z w64 c.tenths_after.result) ≡ cell.tenths +ℤ d.kwh *ℤ d.price = search rules in
+    ap₂ (with c.to_plain-plain.result) k t ∙ ap (λ (p : PlainCell). with p (cell.regulating +ℤ d.kwh) (cell.tenths +ℤ d.kwh *ℤ d.price)) c.to_plain-plain.ensures.value

@@ -3,8 +3,8 @@ use Rattle.std.proofs.lemmas.Int.{ints}
 use Rattle.units.proofs.Integers.{sum-read}
 use Rattle.rows.proofs.changes.Delivery.tenths_after.Goals as goal
 
-pub overflow-add-result : goal.overflow-add-result
-overflow-add-result c =
+pub overflow_add-result : goal.overflow_add-result
+overflow_add-result c =
     let paid = c.args.cell.now.paid in
     let few : nat_abs c.tenths.result ≤ 49899501000 = search rules in
     omega (arith, ints)
