@@ -8,8 +8,8 @@ use Rattle.sharing.proofs.largest_remainder.allot.Goals as goal
 pub sum-requires : goal.sum-requires
 sum-requires c = omega (arith, ap sum_n c.divide.ensures.shares, floors_sum c.args.m c.args.weights.now (omega arith))
 
-pub overflow-sub-m : goal.overflow-sub-m
-overflow-sub-m c = omega (arith, ap sum_n c.divide.ensures.shares, floors_sum c.args.m c.args.weights.now (omega arith), c.sum.ensures)
+pub overflow_sub-m : goal.overflow_sub-m
+overflow_sub-m c = omega (arith, ap sum_n c.divide.ensures.shares, floors_sum c.args.m c.args.weights.now (omega arith), c.sum.ensures)
 
 pub serve-requires : goal.serve-requires
 serve-requires c =
