@@ -1,4 +1,4 @@
-use Rattle.std.proofs.Common.{sym, arith, rules}
+use Rattle.std.proofs.Common.{sym, arith}
 use Rattle.std.proofs.lemmas.Int.{ints}
 use Rattle.sharing.proofs.Ranges.{admitted}
 use Rattle.sharing.proofs.admit.Goals as goal

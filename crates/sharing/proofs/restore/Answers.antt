@@ -1,4 +1,4 @@
-use Rattle.std.proofs.Common.{◌≡◌, length, sym, ◌∙◌, arith, rules}
+use Rattle.std.proofs.Common.{sym, ◌∙◌, arith}
 use lib.ListN.{length-map}
 use Rattle.units.proofs.Summing.{page_is}
 use Rattle.sharing.specs.Rules.{signed}

@@ -1,4 +1,4 @@
-use Rattle.std.proofs.Common.{◌≡◌, ℕ, ◌+◌, ◌-◌, cond, ltb, List, length, get_or, ap, ◌∙◌, arith, rules}
+use Rattle.std.proofs.Common.{ℕ, ◌+◌, ◌-◌, cond, ltb, List, get_or, ap, ◌∙◌, arith}
 use Rattle.units.specs.Sums.{sum_n}
 use Rattle.sharing.specs.Rules.{rank}
 use Rattle.sharing.specs.Leftovers.{floors_sum}

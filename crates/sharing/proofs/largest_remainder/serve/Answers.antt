@@ -1,4 +1,4 @@
-use Rattle.std.proofs.Common.{arith, rules}
+use Rattle.std.proofs.Common.{arith}
 use Rattle.sharing.specs.Signs.{at_most_sum}
 use Rattle.sharing.proofs.largest_remainder.serve.Goals as goal
 

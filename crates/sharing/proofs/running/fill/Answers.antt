@@ -1,4 +1,4 @@
-use Rattle.std.proofs.Common.{◌≡◌, ℕ, ◌-◌, List, length, take, replicate, ℤ, pos, nat_abs, sym, ap, ◌∙◌, subst, arith, w64, to_z, of_z, rules}
+use Rattle.std.proofs.Common.{◌≡◌, ◌-◌, length, take, replicate, ℤ, pos, nat_abs, sym, ap, ◌∙◌, subst, arith, w64, to_z, of_z}
 use lib.ListN.{length-map}
 use lib.Signed.{lt_z}
 use Rattle.std.proofs.lemmas.List.{take-replicate}
