@@ -1,5 +1,5 @@
 -- The largest remainder rule, by the parties before each, is the same as halers handed out one by one; so it keeps the laws. Assumes nothing.
-use Rattle.std.specs.Prelude.{◌≡◌, ℕ, zero, suc, ◌+◌, ◌-◌, ◌*◌, ◌%◌, ◌<◌, ◌≤◌, Bool, true, false, cond, ◌&&◌, ◌||◌, ◌⊎◌, List, [], ◌∷◌, ◌++◌, map, length, get_or, take, ℤ, pos, ◌==◌, nat_lt, slice_index, slice_index_or, unsigned_abs, refl}
+use Rattle.std.specs.Prelude.{◌≡◌, ℕ, zero, suc, ◌+◌, ◌-◌, ◌*◌, ◌%◌, ◌<◌, ◌≤◌, Bool, true, false, cond, ◌⊎◌, List, [], ◌∷◌, map, length, get_or, take, ℤ, pos, ◌==◌, nat_lt, slice_index, slice_index_or, unsigned_abs, refl}
 use Rattle.std.proofs.Common.{arith, not-suc-le-zero, inl, inr, ⊎_elim, sym, ap, subst, ◌∙◌}
 use Rattle.std.specs.List.{range_with_len}
 use Rattle.std.proofs.lemmas.List.FromFn.{length-map-range_with_len, get_or-map-range_with_len, map-range_with_len_more, fill_by_all}
@@ -10,7 +10,7 @@ use Rattle.units.proofs.Summing.{sum_n-append, sum_n_more, page-inside}
 use Rattle.sharing.specs.Laws.{Lawful}
 use Rattle.sharing.specs.Rules.{floors, rests, leftover, before, rank, largest_share, largest_shares, largest_remainder, signed, below_zero, Serves}
 use Rattle.sharing.specs.Signs.{Splits, splits_same, lawful, get_or_signed, signed_same}
-use Rattle.sharing.specs.Leftovers.{Ahead, give, handed, Enough, Served, enough, give_length, give_sum, give_at, give_order, no_weight, leftover_is, handed_splits}
+use Rattle.sharing.specs.Leftovers.{Ahead, give, handed, Enough, enough, give_length, give_sum, give_at, give_order, no_weight, leftover_is, handed_splits}
 
 -- Sums over the first n parties
 

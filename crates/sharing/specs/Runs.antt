@@ -1,5 +1,5 @@
 -- The running rule keeps the laws. Assumes nothing.
-use Rattle.std.specs.Prelude.{◌≡◌, ℕ, zero, suc, ◌+◌, ◌-◌, ◌*◌, ◌/◌, ◌<◌, ◌≤◌, List, [], ◌∷◌, ◌++◌, map, length, take, slice_index, slice_index_or, refl}
+use Rattle.std.specs.Prelude.{◌≡◌, ℕ, zero, suc, ◌+◌, ◌*◌, ◌/◌, ◌<◌, ◌≤◌, List, [], ◌∷◌, ◌++◌, map, length, take, slice_index, slice_index_or}
 use Rattle.std.proofs.Common.{arith, div-mul-le_self, mul-div_cancel, mul-le-mul_left, mul-zero, ⊎_elim, sym, ap, ◌∙◌}
 use Rattle.std.proofs.Math.Nat.{div-zero, lt-div-mul-add, zero-div}
 use Rattle.std.specs.List.{range_with_len}

@@ -1,12 +1,12 @@
-use Rattle.std.proofs.Common.{◌≡◌, length, sym, ◌∙◌, arith, rules}
+use Rattle.std.proofs.Common.{sym, ◌∙◌, arith}
 use lib.ListN.{length-map}
 use Rattle.units.proofs.Summing.{page_is}
 use Rattle.sharing.specs.Rules.{signed}
 use Rattle.sharing.specs.Signs.{at_most_sum, get_or_signed}
 use Rattle.sharing.proofs.restore.Goals as goal
 
-pub with-sign-requires : goal.with-sign-requires
-with-sign-requires c = omega (arith, at_most_sum c.args.shares.now c.loop-i.i)
+pub with_sign-requires : goal.with_sign-requires
+with_sign-requires c = omega (arith, at_most_sum c.args.shares.now c.loop-i.i)
 
 pub returns : goal.returns
 returns c =

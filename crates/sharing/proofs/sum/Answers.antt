@@ -4,8 +4,8 @@ use Rattle.units.specs.Sums.{sum_n}
 use Rattle.units.proofs.Summing.{sum_n_more, sum_n-take}
 use Rattle.sharing.proofs.sum.Goals as goal
 
-pub overflow-add-sum : goal.overflow-add-sum
-overflow-add-sum c =
+pub overflow_add-sum : goal.overflow_add-sum
+overflow_add-sum c =
     let s = sum_n_more c.args.numbers.now c.loop-x.x-index c.loop-x-test.true in
     let t = sum_n-take c.args.numbers.now (c.loop-x.x-index + 1) in
     omega arith

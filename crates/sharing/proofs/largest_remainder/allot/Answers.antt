@@ -1,4 +1,4 @@
-use Rattle.std.proofs.Common.{◌≡◌, ℕ, ◌+◌, ◌-◌, cond, ltb, List, length, get_or, ap, ◌∙◌, arith, rules}
+use Rattle.std.proofs.Common.{ℕ, ◌+◌, ◌-◌, cond, ltb, List, get_or, ap, ◌∙◌, arith}
 use Rattle.units.specs.Sums.{sum_n}
 use Rattle.sharing.specs.Rules.{rank}
 use Rattle.sharing.specs.Leftovers.{floors_sum}
@@ -8,8 +8,8 @@ use Rattle.sharing.proofs.largest_remainder.allot.Goals as goal
 pub sum-requires : goal.sum-requires
 sum-requires c = omega (arith, ap sum_n c.divide.ensures.shares, floors_sum c.args.m c.args.weights.now (omega arith))
 
-pub overflow-sub-m : goal.overflow-sub-m
-overflow-sub-m c = omega (arith, ap sum_n c.divide.ensures.shares, floors_sum c.args.m c.args.weights.now (omega arith), c.sum.ensures)
+pub overflow_sub-m : goal.overflow_sub-m
+overflow_sub-m c = omega (arith, ap sum_n c.divide.ensures.shares, floors_sum c.args.m c.args.weights.now (omega arith), c.sum.ensures)
 
 pub serve-requires : goal.serve-requires
 serve-requires c =

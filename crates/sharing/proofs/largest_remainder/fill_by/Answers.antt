@@ -1,4 +1,4 @@
-use Rattle.std.proofs.Common.{ℕ, ◌≤◌, List, map, length, ℤ, ap, ◌∙◌, arith, rules}
+use Rattle.std.proofs.Common.{ℕ, List, map, length, ap, ◌∙◌, arith}
 use Rattle.units.specs.Sums.{sum_n, page}
 use Rattle.sharing.specs.Rules.{signed, largest_shares}
 use Rattle.sharing.specs.Ranks.{largest_splits}

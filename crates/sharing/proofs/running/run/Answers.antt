@@ -1,4 +1,4 @@
-use Rattle.std.proofs.Common.{◌≡◌, ℕ, ◌+◌, ◌-◌, ◌*◌, ◌/◌, ◌<◌, length, get_or, take, ap, ◌∙◌, mul-le-mul_left, arith, rules, below_more}
+use Rattle.std.proofs.Common.{◌≡◌, ◌+◌, ◌-◌, ◌*◌, ◌/◌, ◌<◌, length, get_or, take, ap, ◌∙◌, mul-le-mul_left, arith, below_more}
 use Rattle.std.proofs.lemmas.List.FromFn.{fill_by_all}
 use Rattle.std.proofs.lemmas.List.{get_or-set_same, get_or-set_other}
 use Rattle.units.specs.Sums.{sum_n}
@@ -7,8 +7,8 @@ use Rattle.sharing.specs.Rules.{running_share}
 use Rattle.sharing.specs.Runs.{div_mono}
 use Rattle.sharing.proofs.running.run.Goals as goal
 
-pub overflow-add-upto : goal.overflow-add-upto
-overflow-add-upto c =
+pub overflow_add-upto : goal.overflow_add-upto
+overflow_add-upto c =
     let s = sum_n_more c.args.weights.now c.loop-i.i c.loop-i-test.true in
     let t = sum_n-take c.args.weights.now (c.loop-i.i + 1) in
     omega arith
@@ -19,8 +19,8 @@ floor-high-requires c =
     let t = sum_n-take c.args.weights.now (c.loop-i.i + 1) in
     record { halers = omega arith; part = omega arith; light = omega arith; some = omega arith }
 
-pub overflow-sub-shares : goal.overflow-sub-shares
-overflow-sub-shares c =
+pub overflow_sub-shares : goal.overflow_sub-shares
+overflow_sub-shares c =
     let m = c.args.m in
     let B = sum_n (take c.loop-i.i c.args.weights.now) in
     let u = c.loop-i.upto + get_or c.args.weights.now c.loop-i.i 0 in

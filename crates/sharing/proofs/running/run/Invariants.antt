@@ -1,4 +1,4 @@
-use Rattle.std.proofs.Common.{◌≡◌, ℕ, ◌*◌, ◌/◌, ◌<◌, length, get_or, take}
+use Rattle.std.proofs.Common.{◌≡◌, ℕ, ◌*◌, ◌/◌, ◌<◌, get_or, take}
 use Rattle.units.specs.Sums.{sum_n}
 use Rattle.sharing.specs.Rules.{running_share}
 use Rattle.sharing.proofs.running.run.Given as goal

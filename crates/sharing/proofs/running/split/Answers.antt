@@ -1,4 +1,4 @@
-use Rattle.std.proofs.Common.{◌≡◌, length, sym, ap, ◌∙◌, arith, rules}
+use Rattle.std.proofs.Common.{◌≡◌, length, sym, ap, ◌∙◌, arith}
 use lib.ListN.{length-replicate}
 use Rattle.sharing.proofs.Ranges.{total-within}
 use Rattle.sharing.specs.Runs.{running_splits}
