@@ -1,15 +1,13 @@
 -- The regulating rule keeps the law: its prices lie within ±99,999. Assumes nothing.
-use Rattle.std.specs.Prelude.{◌≡◌, ℕ, ◌*◌, ◌<◌, ◌≤◌, Bool, true, false, cond, ℤ, pos, Some, None, Option, int_le, int_lt, unsigned_abs}
+use Rattle.std.specs.Prelude.{◌≡◌, ℕ, ◌≤◌, Bool, true, false, ℤ, pos, Some, None, Option, int_le, int_lt, unsigned_abs}
 use Rattle.std.proofs.Common.{arith}
 use Rattle.std.proofs.lemmas.Bool.{and_parts, cond_both, leb-true}
-use Rattle.std.proofs.lemmas.Bool.Decides.{nat_tests}
 use Rattle.units.specs.Rounding.{nearest}
 use Rattle.units.proofs.Nearby.{nearest_small}
 use Rattle.hourly.specs.Bounds.{deliveries_ok}
-use Rattle.hourly.specs.Records.{HourFigures, in_bounds}
 use Rattle.hourly.specs.declared.deliveries.Deliveries.{Deliveries}
 use Rattle.pricing.specs.Prices.{Bounded, PricedWithin}
-use Rattle.pricing.specs.Rules.{by_deliveries, asked, regulating}
+use Rattle.pricing.specs.Rules.{by_deliveries, regulating}
 
 by_deliveries_bounded : (default si : ℤ) (up : Bool) (kwh : ℕ) (total : ℤ) (o : Option ℤ) → unsigned_abs default ≤ 99999 → deliveries_ok up kwh total o ≡ true → Bounded (by_deliveries default si kwh total o)
 by_deliveries_bounded default si up kwh total None hd ok = (hd, hd)

@@ -4,11 +4,11 @@
 --   sharing_map c      the map that a chosen sharing rule stands for
 --   rules_checks p d s the checks of the three numbers, in order
 --   rules_chosen p d s the rules that they pick, where the checks pass
-use Rattle.std.specs.Prelude.{ℕ, Bool, cond, not, List, [], ◌∷◌, ℤ, pos, Some, None, Ok, Err, Option, Result, nat_le, unsigned_abs}
+use Rattle.std.specs.Prelude.{ℕ, cond, List, [], ◌∷◌, ℤ, pos, Some, None, Ok, Err, Option, Result, nat_le, unsigned_abs}
 use Rattle.pricing.specs.Prices.{PriceMap}
 use Rattle.pricing.specs.Rules.{ladder, regulating}
 use Rattle.sharing.specs.Rules.{largest_remainder, running}
-use Rattle.entries.specs.Fields.{Check, between, first_of, value_check, within}
+use Rattle.entries.specs.Fields.{Check, between, value_check, within}
 use Rattle.entries.specs.States.{same}
 use Rattle.entries.specs.declared.refusal.Refusal.{Refusal}
 use Rattle.rules.specs.declared.choice.ChosenPricing.{ChosenPricing}

@@ -1,5 +1,5 @@
 -- A figure of each element laid on a page of 20 places, one by one. Assumes nothing.
-use Rattle.std.proofs.Common.{◌≡◌, ℕ, suc, ◌+◌, ◌-◌, ◌<◌, ◌≤◌, List, [], ◌∷◌, ◌++◌, map, length, get_or, take, set, replicate, sym, refl, ap, ◌∙◌, append_assoc, arith, length-append, length-take}
+use Rattle.std.proofs.Common.{◌≡◌, ℕ, suc, ◌+◌, ◌-◌, ◌<◌, ◌≤◌, List, [], ◌∷◌, ◌++◌, map, length, get_or, take, set, replicate, sym, ap, ◌∙◌, append_assoc, arith, length-append, length-take}
 use lib.ListN.{length-map, length-replicate}
 use Rattle.std.proofs.lemmas.List.{map_more, set_at, length_push}
 

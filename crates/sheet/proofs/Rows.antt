@@ -1,9 +1,9 @@
 -- Rows gathered from cells, one by one. Assumes nothing.
-use Rattle.std.proofs.Common.{◌≡◌, ℕ, ◌+◌, ◌<◌, ◌≤◌, true, false, cond, List, [], ◌∷◌, ◌++◌, map, length, get_or, take, drop, set, is_some, Some, None, Option, sym, refl, ap, ◌∙◌, subst, ⊎_elim, arith}
+use Rattle.std.proofs.Common.{◌≡◌, ℕ, ◌+◌, ◌<◌, ◌≤◌, true, false, List, [], ◌∷◌, map, length, get_or, take, drop, set, is_some, Some, None, sym, refl, ap, ◌∙◌, subst, ⊎_elim, arith}
 use Rattle.std.proofs.lemmas.List.{get_or-set_same, get_or-set_other, at_drop_more, at_drop_all, get_or-take, get_or_past, length-take}
 use Rattle.std.proofs.lemmas.Bool.{cases_eq, cases_lt, cond-true, cond-false}
 use Rattle.hourly.specs.declared.plain.PlainCell.{PlainCell}
-use Rattle.hourly.specs.Cells.{CellFigures, blank, read}
+use Rattle.hourly.specs.Cells.{blank, read}
 use Rattle.sheet.specs.declared.row.Row.{Row}
 use Rattle.sheet.specs.Bounds.{RowWithin, RowsWithin, zero_row}
 use Rattle.sheet.specs.Gathering.{row_of, first_missing}

@@ -1,11 +1,11 @@
 -- A remainder split by a lawful map: weights as signed numbers, parts on a page, and what they add up to. Assumes nothing.
-use Rattle.std.proofs.Common.{◌≡◌, ℕ, zero, suc, ◌+◌, ◌-◌, ◌<◌, ◌≤◌, Bool, true, false, cond, ltb, List, [], ◌∷◌, ◌++◌, map, length, get_or, take, replicate, ℤ, pos, ◌+ℤ◌, neg_ℤ, nat_abs, None, sym, refl, ap, ◌∙◌, subst, ⊎_elim, le_trans, not-suc-le-zero, arith}
+use Rattle.std.proofs.Common.{◌≡◌, ℕ, zero, suc, ◌+◌, ◌-◌, ◌<◌, ◌≤◌, Bool, true, false, cond, ltb, List, [], ◌∷◌, ◌++◌, map, length, get_or, take, replicate, ℤ, pos, ◌+ℤ◌, nat_abs, None, sym, refl, ap, ◌∙◌, subst, ⊎_elim, le_trans, not-suc-le-zero, arith}
 use lib.ListN.{length-map, length-replicate}
 use Rattle.std.proofs.lemmas.List.{get_or-map, get_or_past, take_at, replicate-append-replicate}
 use Rattle.std.proofs.lemmas.Int.{ints}
-use Rattle.std.proofs.lemmas.Bool.{and_from, cases_lt, cond_both, cond-false, cond-true, le-leb, le-ltb, ltb-true}
+use Rattle.std.proofs.lemmas.Bool.{cases_lt, cond_both, ltb-true}
 use Rattle.units.specs.Sums.{page, sum_n, sum_z}
-use Rattle.units.proofs.Summing.{sum_z-page, length-page, zeros_at}
+use Rattle.units.proofs.Summing.{sum_z-page, zeros_at}
 use Rattle.sharing.specs.Laws.{Lawful}
 use Rattle.sharing.specs.Limits.{refusal}
 use Rattle.sharing.proofs.Parts.{page-within}

@@ -1,5 +1,5 @@
 -- One hour as a whole: pages added, and conservation. Assumes nothing.
-use Rattle.std.proofs.Common.{◌≡◌, ℕ, zero, suc, ◌-◌, ◌≤◌, List, [], ◌∷◌, ◌++◌, map, length, replicate, ℤ, pos, ◌+ℤ◌, neg_ℤ, sym, refl, ap, ◌∙◌, not-suc-le-zero, arith}
+use Rattle.std.proofs.Common.{◌≡◌, ℕ, zero, suc, ◌-◌, List, [], ◌∷◌, ◌++◌, length, replicate, ℤ, pos, ◌+ℤ◌, neg_ℤ, sym, refl, ap, ◌∙◌, not-suc-le-zero, arith}
 use lib.ListN.{length-map}
 use Rattle.std.proofs.lemmas.Int.{ints}
 use Rattle.units.specs.Sums.{page, sum_z}
@@ -8,7 +8,7 @@ use Rattle.hourly.specs.Records.{HourFigures}
 use Rattle.pricing.specs.Prices.{PriceMap}
 use Rattle.pricing.specs.declared.prices.Prices.{Prices}
 use Rattle.sharing.specs.Laws.{Lawful}
-use Rattle.sheet.specs.Evaluation.{HourFacts, ShareMap, added, amounts, first_amount, first_amounts, operator_part, parts, prices_of, remainder, weight, weights}
+use Rattle.sheet.specs.Evaluation.{HourFacts, ShareMap, added, first_amount, first_amounts, parts, prices_of, remainder, weight, weights}
 use Rattle.sheet.specs.declared.row.Row.{Row}
 use Rattle.sheet.specs.Sheets.{Conserves, SheetFigures}
 use Rattle.sheet.proofs.Splitting.{length-added, length-parts, parts_make_up, sum_z-added}

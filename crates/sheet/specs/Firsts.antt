@@ -1,9 +1,8 @@
 -- A first amount is small. Assumes nothing.
-use Rattle.std.specs.Prelude.{◌≡◌, ℕ, ◌≤◌, ℤ, pos, ◌+ℤ◌, ◌*ℤ◌, int_lt, unsigned_abs}
+use Rattle.std.specs.Prelude.{◌≤◌, ℤ, pos, ◌*ℤ◌, int_lt, unsigned_abs}
 use Rattle.std.proofs.Common.{arith}
 use Rattle.std.proofs.lemmas.Int.{ints}
 use Rattle.std.proofs.lemmas.Bool.{cond_both}
-use Rattle.units.specs.Rounding.{rounded}
 use Rattle.units.proofs.Integers.{product_within, sum-within}
 use Rattle.units.proofs.Nearby.{nearest_small}
 use Rattle.pricing.specs.declared.prices.Prices.{Prices}

@@ -1,8 +1,8 @@
 -- Gathering a sheet from the cells of an hour. Assumes nothing.
-use Rattle.std.specs.Prelude.{ℕ, ◌+◌, ◌-◌, ◌*◌, Bool, true, false, cond, ◌&&◌, List, [], ◌∷◌, ◌++◌, map, length, take, replicate, ℤ, pos, is_some, Some, None, Option, int_le, nat_le, unsigned_abs}
+use Rattle.std.specs.Prelude.{ℕ, ◌+◌, ◌-◌, ◌*◌, Bool, cond, ◌&&◌, List, [], ◌∷◌, ◌++◌, map, length, take, replicate, ℤ, pos, is_some, Some, None, Option, int_le, nat_le, unsigned_abs}
 use Rattle.std.specs.Option.{unwrap_or}
 use Rattle.hourly.specs.Cells.{CellFigures}
-use Rattle.hourly.specs.Records.{HourFigures, no_deliveries, record_figures}
+use Rattle.hourly.specs.Records.{no_deliveries, record_figures}
 use Rattle.sheet.specs.declared.row.Row.{Row}
 use Rattle.sheet.specs.declared.row.SheetRefusal.{SheetRefusal}
 use Rattle.sheet.specs.declared.row.SheetRefusal.TheVariants.{Parties, Day, Hour, Reading}

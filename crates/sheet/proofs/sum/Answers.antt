@@ -6,8 +6,8 @@ use Rattle.units.specs.Sums.{sum_z}
 use Rattle.units.proofs.Summing.{sum_z_more}
 use Rattle.sheet.proofs.sum.Goals as goal
 
-pub overflow-add-sum : goal.overflow-add-sum
-overflow-add-sum c =
+pub overflow_add-sum : goal.overflow_add-sum
+overflow_add-sum c =
     let x = c.requires.within c.loop-x.x-index in
     let m = mul-le c.args.limit c.loop-x.x-index 30000000000 20 c.requires.small (omega arith) in
     omega (arith, ints)

@@ -1,11 +1,11 @@
-use Rattle.std.proofs.Common.{◌≡◌, ℕ, ◌-◌, ◌≤◌, true, false, ltb, List, map, length, take, replicate, ℤ, pos, None, Option, sym, ap, ◌∙◌, arith, w64, to_z, of_z, rules}
+use Rattle.std.proofs.Common.{◌≡◌, ℕ, ◌-◌, true, false, ltb, List, map, length, take, replicate, ℤ, pos, None, Option, sym, ap, ◌∙◌, arith, w64, to_z, of_z, rules}
 use lib.ListN.{length-map}
 use lib.Signed.{lt_z}
 use Rattle.std.proofs.lemmas.Bool.{cond-false, cond-true}
 use Rattle.units.specs.Sums.{page, sum_n}
 use Rattle.sharing.specs.Limits.{afterwards, answer, magnitudes, refusal}
 use Rattle.sharing.specs.declared.refusal.SharingRefusal.{SharingRefusal}
-use Rattle.sheet.specs.Evaluation.{parts_by, weight, weights}
+use Rattle.sheet.specs.Evaluation.{weight, weights}
 use Rattle.sharing.proofs.Ranges.{magnitudes_pos}
 use Rattle.sheet.proofs.Splitting.{admitted, weights_taken, zero_page}
 use Rattle.sheet.proofs.balance.parts_of.Goals as goal

@@ -1,4 +1,4 @@
-use Rattle.std.proofs.Common.{◌≡◌, List, map, ℤ, pos, ap, ◌∙◌, arith, w64, to_z, of_z, rules}
+use Rattle.std.proofs.Common.{◌≡◌, List, map, pos, ap, ◌∙◌, arith, w64, to_z, of_z, rules}
 use Rattle.std.proofs.lemmas.Int.{ints}
 use Rattle.units.specs.Sums.{page, sum_z}
 use Rattle.sheet.specs.declared.row.Row.{Row}
@@ -17,6 +17,6 @@ returns c =
     record {
       remainder = omega (arith, ints);
       bound = omega (arith, ints);
-      weights = c.totalled-total.ensures.figures ∙ ap (λ (rs : List Row). page (map (λ (r : Row). pos (weight r)) rs)) c.party-rows.ensures.value ∙ ap page (signed-weights rows);
-      weight = z ∙ c.totalled-total.ensures.total ∙ ap (λ (rs : List Row). sum_z (map (λ (r : Row). pos (weight r)) rs)) c.party-rows.ensures.value ∙ ap sum_z (signed-weights rows) ∙ sum_z_pos (weights rows);
+      weights = c.totalled-total.ensures.figures ∙ ap (λ (rs : List Row). page (map (λ (r : Row). pos (weight r)) rs)) c.party_rows.ensures.value ∙ ap page (signed-weights rows);
+      weight = z ∙ c.totalled-total.ensures.total ∙ ap (λ (rs : List Row). sum_z (map (λ (r : Row). pos (weight r)) rs)) c.party_rows.ensures.value ∙ ap sum_z (signed-weights rows) ∙ sum_z_pos (weights rows);
     }

@@ -1,5 +1,5 @@
-use Rattle.std.proofs.Common.{◌≡◌, List, map, ℤ, pos, neg_ℤ, sym, ap, ◌∙◌}
-use Rattle.units.specs.Sums.{page, sum_n, sum_z}
+use Rattle.std.proofs.Common.{◌≡◌, List, ℤ, pos, ap, ◌∙◌}
+use Rattle.units.specs.Sums.{page, sum_n}
 use Rattle.sheet.specs.declared.gathered.Gathered.{Gathered}
 use Rattle.sheet.specs.declared.priced.Priced.{Priced}
 use Rattle.sheet.specs.Evaluation.{added, amounts, first_amounts, operator_by, operator_part, parts, parts_by, remainder, weights}

@@ -2,8 +2,8 @@ use Rattle.std.proofs.Common.{rules}
 use lib.ListN.{length-map}
 use Rattle.sheet.proofs.gather.refusal_at.Goals as goal
 
-pub returns-then-is-empty : goal.returns-then-is-empty
-returns-then-is-empty c = search (rules, length-map)
+pub returns-then-is_empty : goal.returns-then-is_empty
+returns-then-is_empty c = search (rules, length-map)
 
 pub returns-then-hour-lt1 : goal.returns-then-hour-lt1
 returns-then-hour-lt1 c = search (rules, length-map)

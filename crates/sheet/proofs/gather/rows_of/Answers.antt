@@ -1,4 +1,4 @@
-use Rattle.std.proofs.Common.{◌≡◌, ◌<◌, ◌≤◌, List, map, length, take, ap, ◌∙◌, arith, length-take, rules}
+use Rattle.std.proofs.Common.{◌≡◌, ◌<◌, List, map, length, take, ap, ◌∙◌, arith, length-take}
 use lib.ListN.{length-map}
 use Rattle.std.proofs.lemmas.List.{take_all, take_at}
 use Rattle.hourly.specs.Cells.{blank, read}
@@ -18,8 +18,8 @@ loop-i-preserved c =
     let f : PlainCell → Row = λ p. row_of (read p) in
     let ys = map f (take i cells) in
     let l : i < length rows = omega (arith, ap length c.loop-i.invariant.0, length_padded zero_row ys (omega (arith, length-map (take i cells) f, length-take i cells)), c.requires) in (
-      column_more zero_row f cells i blank rows c.row-at.result c.loop-i-test.true c.requires c.loop-i.invariant.0 c.row-at.ensures.value,
-      each_set RowWithin rows i c.row-at.result zero_row l c.loop-i.invariant.1 c.row-at.ensures.within,
+      column_more zero_row f cells i blank rows c.row_at.result c.loop-i-test.true c.requires c.loop-i.invariant.0 c.row_at.ensures.value,
+      each_set RowWithin rows i c.row_at.result zero_row l c.loop-i.invariant.1 c.row_at.ensures.within,
     )
 
 pub returns : goal.returns
