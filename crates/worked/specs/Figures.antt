@@ -2,12 +2,11 @@
 --
 --   worked_cells w   the cells of a worked hour
 --   Figures          every worked figure
-use Rattle.std.specs.Prelude.{◌≡◌, ℕ, ◌<◌, List, [], ◌∷◌, map, ℤ, pos, ◌-ℤ◌, neg_ℤ, Some, None, slice_index_or}
+use Rattle.std.specs.Prelude.{◌≡◌, ℕ, ◌<◌, List, [], ◌∷◌, ℤ, pos, ◌-ℤ◌, neg_ℤ, Some, slice_index_or}
 use Rattle.units.specs.Rounding.{Nearest, nearest, rounded}
 use Rattle.hourly.specs.Cells.{CellFigures}
 use Rattle.hourly.specs.Records.{HourFigures, delivered, no_deliveries}
 use Rattle.pricing.specs.Rules.{both, ladder, regulating}
-use Rattle.pricing.specs.declared.prices.Prices.{Prices}
 use Rattle.sharing.specs.Rules.{largest_remainder, running}
 use Rattle.sheet.specs.Evaluation.{HourFacts, amounts, first_amounts, operator_part, remainder}
 use Rattle.sheet.specs.Sheets.{hour_facts}

@@ -2,8 +2,8 @@ use Rattle.std.proofs.Common.{◌+◌, ◌*◌, ◌≤◌, refl, mul-le-mul, ari
 use Rattle.book.proofs.Places.{party_inside}
 use Rattle.book.proofs.party_at.Goals as goal
 
-pub overflow-mul-result-2 : goal.overflow-mul-result-2
-overflow-mul-result-2 c =
+pub overflow_mul-result-2 : goal.overflow_mul-result-2
+overflow_mul-result-2 c =
     let p : c.args.party ≤ 19 = search rules in
     let d : c.args.sizes.now.days * 24 ≤ 1488 = search rules in
     let m : c.args.party * (c.args.sizes.now.days * 24) ≤ 19 * 1488 = mul-le-mul p d in

@@ -4,8 +4,8 @@ use Rattle.units.proofs.Integers.{sum-read}
 use Rattle.book.specs.Effects.{side}
 use Rattle.book.proofs.checks.sale_cash.Goals as goal
 
-pub overflow-add-result : goal.overflow-add-result
-overflow-add-result c =
+pub overflow_add-result : goal.overflow_add-result
+overflow_add-result c =
     let a : nat_abs c.side.result ≤ 119758802400 = search rules in
     let b : nat_abs c.side-2.result ≤ 119758802400 = search rules in
     omega (arith, ints)

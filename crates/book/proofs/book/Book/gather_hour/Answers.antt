@@ -19,10 +19,10 @@ returns g c =
     let v = standing_on (held b) in
     let m = terms b.sizes (g.P.Pricing.map b.pricing) (g.S.Sharing.map b.sharing) in
     let cells = hour_cells m v c.args.day c.args.hour in
-    let e : map read (take b.sizes.parties c.hour-cells-cells.result) ≡ cells = search rules in
-    let x : c.sheet-from.result.refusal ≡ gather_refusal c.args.hour (map read (take b.sizes.parties c.hour-cells-cells.result)) = search rules in
-    let y : (facts c.sheet-from.result).rows ≡ rows_gathered c.args.hour (map read (take b.sizes.parties c.hour-cells-cells.result)) = search rules in
-    let z : (facts c.sheet-from.result).deliveries ≡ v.deliveries (index c.args.day) (index c.args.hour) = search rules in
+    let e : map read (take b.sizes.parties c.hour_cells-cells.result) ≡ cells = search rules in
+    let x : c.sheet_from.result.refusal ≡ gather_refusal c.args.hour (map read (take b.sizes.parties c.hour_cells-cells.result)) = search rules in
+    let y : (facts c.sheet_from.result).rows ≡ rows_gathered c.args.hour (map read (take b.sizes.parties c.hour_cells-cells.result)) = search rules in
+    let z : (facts c.sheet_from.result).deliveries ≡ v.deliveries (index c.args.day) (index c.args.hour) = search rules in
     record {
       refusal = x ∙ ap (gather_refusal c.args.hour) e;
       facts = ap₂ known (y ∙ ap (rows_gathered c.args.hour) e) z;

@@ -12,8 +12,8 @@ loop-party-preserved g c =
     let i = c.loop-party.party in
     let xs = c.loop-party.cells in
     let f = λ (k : ℕ). get_or h.cells (cell_at h.sizes k c.args.day c.args.hour) blank in
-    let at : c.row-at.result + c.args.hour ≡ cell_at h.sizes i c.args.day c.args.hour = search rules in
-    let e : get_or h.cells (c.row-at.result + c.args.hour) blank ≡ f i = ap (λ k. get_or h.cells k blank) at in
+    let at : c.row_at.result + c.args.hour ≡ cell_at h.sizes i c.args.day c.args.hour = search rules in
+    let e : get_or h.cells (c.row_at.result + c.args.hour) blank ≡ f i = ap (λ k. get_or h.cells k blank) at in
     let l : i < length xs = search rules in (
       (λ k m. ap (λ (x : PlainCell). get_or (set xs i x) k blank) e ∙ fill_by_more f xs i blank l c.loop-party.invariant.0 k m),
       length-set xs i _ ∙ c.loop-party.invariant.1,

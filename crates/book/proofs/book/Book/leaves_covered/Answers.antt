@@ -12,8 +12,8 @@ returns g c =
     let v = standing_on (held b) in
     let e = c.args.entry.now in
     let m = terms b.sizes (g.P.Pricing.map b.pricing) (g.S.Sharing.map b.sharing) in
-    let x : to_z w64 (of_z w64 c.need-after.result) ≡ c.need-after.result = search rules in
-    let y : to_z w64 (of_z w64 c.balance-after.result) ≡ c.balance-after.result = search rules in
-    let n : c.need-after.result ≡ pos (need_after m v e c.args.party) = search rules in
-    let a : c.balance-after.result ≡ cash_after v e c.args.party +ℤ (v.account c.args.party).settled = search rules in
+    let x : to_z w64 (of_z w64 c.need_after.result) ≡ c.need_after.result = search rules in
+    let y : to_z w64 (of_z w64 c.balance_after.result) ≡ c.balance_after.result = search rules in
+    let n : c.need_after.result ≡ pos (need_after m v e c.args.party) = search rules in
+    let a : c.balance_after.result ≡ cash_after v e c.args.party +ℤ (v.account c.args.party).settled = search rules in
     ap₂ le_z (x ∙ n) (y ∙ a)

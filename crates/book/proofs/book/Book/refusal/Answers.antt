@@ -9,8 +9,8 @@ use Rattle.book.specs.Posting.{refusal_on}
 use Rattle.book.proofs.Places.{fitting}
 use Rattle.book.proofs.book.Book.refusal.Goals as goal
 
-pub from-state-requires : goal.from-state-requires
-from-state-requires g c =
+pub from_state-requires : goal.from_state-requires
+from_state-requires g c =
     let b = c.args.self.now in
     let f : fits (held b) ≡ true = search rules in
     let p : first_of (field_checks b.sizes c.args.entry.now) ≡ None = search rules in
@@ -37,7 +37,7 @@ returns-in-None g c =
     let m = terms b.sizes (g.P.Pricing.map b.pricing) (g.S.Sharing.map b.sharing) in
     let f : fits (held b) ≡ true = search rules in
     let p : first_of (field_checks b.sizes e) ≡ None = search rules in
-    c.from-state.ensures ∙ sym (cond-true (fits (held b)) _ _ f ∙ later (field_checks b.sizes e) (book_checks m (standing_on (held b)) e) p)
+    c.from_state.ensures ∙ sym (cond-true (fits (held b)) _ _ f ∙ later (field_checks b.sizes e) (book_checks m (standing_on (held b)) e) p)
 
 pub returns-then-not-fits : goal.returns-then-not-fits
 unfolding refusal_on

@@ -7,7 +7,7 @@ pub returns : goal.returns
 returns g c =
     let f = relaid (g.C.Change.change c.args.change.now) in
     let cells = c.args.self.now.cells.now in
-    let e = put_changed f c.args.start _ c.args.count cells c.change-cells.new.row c.change-cells.ensures (omega arith) in
+    let e = put_changed f c.args.start _ c.args.count cells c.change_cells.new.row c.change_cells.ensures (omega arith) in
     record {
       cells = e;
       long = ap length e ∙ length-changed f c.args.start c.args.count cells;
