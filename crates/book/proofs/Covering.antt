@@ -1,20 +1,19 @@
 -- A party's need, from its own cells with a trade added and from the figures of the book after the entry. Assumes nothing.
-use Rattle.std.proofs.Common.{◌≡◌, ℕ, zero, suc, ◌+◌, ◌*◌, ◌<◌, ◌≤◌, Bool, true, false, cond, ◌&&◌, eqb, ltb, leb, List, length, get_or, take, drop, ℤ, pos, ◌+ℤ◌, nat_abs, sym, refl, ap, ◌∙◌, subst, ap₂, arith}
+use Rattle.std.proofs.Common.{◌≡◌, ℕ, zero, suc, ◌+◌, ◌*◌, ◌<◌, ◌≤◌, Bool, true, false, cond, ◌&&◌, eqb, ltb, leb, List, length, get_or, drop, ℤ, pos, ◌+ℤ◌, sym, refl, ap, ◌∙◌, ap₂, arith}
 use Rattle.std.proofs.lemmas.Bool.{and_parts, and_from, leb-true, ltb-true, eqb-true, le-leb, lt-ltb, eq-eqb}
 use Rattle.std.proofs.lemmas.List.{get_or-take, get_or-drop}
 use Rattle.hourly.specs.declared.plain.PlainCell.{PlainCell}
 use Rattle.hourly.specs.Cells.{blank, read}
 use Rattle.needs.specs.declared.hour.HourPrices.{HourPrices}
 use Rattle.needs.specs.Prices.{exposure}
-use Rattle.needs.specs.Need.{added, counted, day_counted, day_in, day_tenths, need, need_of, need_with, position_in, position_with, price_at, rounded_up, tenths, total}
-use Rattle.entries.specs.declared.entry.DayState.{DayState}
+use Rattle.needs.specs.Need.{added, counted, day_counted, day_in, need, need_of, need_with, position_in, position_with, price_at, rounded_up, total}
 use Rattle.entries.specs.declared.entry.DayState.TheVariants.{Open}
 use Rattle.entries.specs.declared.entry.Entry.{Entry}
 use Rattle.entries.specs.declared.entry.Entry.TheVariants.{Deposit, Withdraw, Register, Market, Close, Regulate, Meter, Evaluate}
 use Rattle.entries.specs.declared.entry.Sizes.{Sizes}
-use Rattle.entries.specs.Sane.{Numbered, Ranged, Sane}
-use Rattle.book.specs.Standing.{Standing, Terms, hours, index}
-use Rattle.book.specs.Effects.{in_hours, sold, traded}
+use Rattle.entries.specs.Sane.{Ranged, Sane}
+use Rattle.book.specs.Standing.{Terms, hours, index}
+use Rattle.book.specs.Effects.{sold, traded}
 use Rattle.book.specs.Checks.{need_after, need_at, position_after}
 use Rattle.book.specs.Held.{Held, standing_on}
 use Rattle.book.specs.Sales.{cells_of, states_of, trade_of}

@@ -1,5 +1,5 @@
 -- Values that may be absent. Assumes nothing.
-use Rattle.std.proofs.Common.{◌≡◌, ℕ, Bool, true, false, cond, is_some, Some, None, Option, sym, refl, arith}
+use Rattle.std.proofs.Common.{◌≡◌, ℕ, Bool, true, false, cond, is_some, Some, None, Option, refl, arith}
 use Rattle.std.specs.Option.{option_map}
 
 -- a value is there exactly where the test holds that says so

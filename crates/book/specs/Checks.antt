@@ -3,14 +3,13 @@
 --   first f a n            the first of the n places from a on at which f holds
 --   checks m v e           the checks of the entry e
 --   refusal_at m v e        the first that fails, if any
-use Rattle.std.specs.Prelude.{ℕ, zero, suc, ◌+◌, Bool, true, cond, not, ◌&&◌, ◌||◌, List, [], ◌∷◌, ◌++◌, map, ℤ, pos, ◌+ℤ◌, neg_ℤ, is_some, Some, None, Option, int_le}
+use Rattle.std.specs.Prelude.{ℕ, zero, suc, ◌+◌, Bool, true, cond, not, ◌&&◌, List, [], ◌∷◌, ◌++◌, map, ℤ, pos, ◌+ℤ◌, neg_ℤ, is_some, Some, None, Option, int_le}
 use Rattle.std.specs.Option.{unwrap_or}
 use Rattle.hourly.specs.Bounds.{within}
 use Rattle.hourly.specs.Records.{deliverable}
 use Rattle.needs.specs.Need.{counted, need}
 use Rattle.entries.specs.Fields.{Check, field_checks, first_of}
 use Rattle.entries.specs.States.{after}
-use Rattle.entries.specs.declared.entry.DayState.{DayState}
 use Rattle.entries.specs.declared.entry.Entry.{Entry}
 use Rattle.entries.specs.declared.entry.Entry.TheVariants.{Deposit, Withdraw, Register, Market, Close, Regulate, Meter, Evaluate}
 use Rattle.entries.specs.declared.refusal.Refusal.{Refusal}

@@ -9,7 +9,7 @@
 --   reply_on m h e       what the book replies to the entry
 --   opened s            what a newly opened book holds
 --   statement_on m h p   the statement of a party, or its refusal
-use Rattle.std.specs.Prelude.{◌≡◌, ℕ, ◌+◌, ◌*◌, true, cond, List, [], ◌∷◌, ◌++◌, map, take, drop, replicate, ℤ, pos, ◌+ℤ◌, ◌*ℤ◌, neg_ℤ, is_some, Some, None, Ok, Err, Option, Result, slice_index_or, slice_set}
+use Rattle.std.specs.Prelude.{◌≡◌, ℕ, ◌+◌, ◌*◌, true, cond, List, [], ◌∷◌, ◌++◌, map, take, drop, replicate, ℤ, pos, ◌+ℤ◌, neg_ℤ, Some, None, Ok, Err, Option, Result, slice_index_or, slice_set}
 use Rattle.std.specs.Option.{unwrap_or}
 use Rattle.hourly.specs.declared.plain.PlainCell.{PlainCell}
 use Rattle.hourly.specs.declared.plain.PlainRecord.{PlainRecord}

@@ -132,8 +132,14 @@ fn sale_of(sizes: &Sizes, entry: &Entry) -> Sale
             seller,
             buyer,
             kwh,
-        }
-        | Entry::Market {
+        } => Sale {
+            seller: row_at(sizes, index(seller), index(day)),
+            buyer: row_at(sizes, index(buyer), index(day)),
+            from: index(from),
+            hours: hours(from, to) as usize,
+            kwh,
+        },
+        Entry::Market {
             day,
             from,
             to,
@@ -216,8 +222,16 @@ fn trade_of(sizes: &Sizes, entry: &Entry, of: usize) -> Trade
             seller,
             buyer,
             kwh,
+        } => {
+            let start = hour_at(sizes, day, from);
+            let end = start + hours(from, to) as usize;
+            Trade {
+                start,
+                end,
+                kwh: sold(seller, buyer, kwh, of),
+            }
         }
-        | Entry::Market {
+        Entry::Market {
             day,
             from,
             to,
@@ -364,10 +378,18 @@ impl<P: Pricing, S: Sharing> Book<'_, P, S> {
             Entry::Withdraw { party, .. } if self.uncovered(entry, party) => Some(
                 Refusal::NotCovered { party },
             ),
-            Entry::Register { seller, .. } | Entry::Market { seller, .. }
-                if self.uncovered(entry, seller) => Some(Refusal::NotCovered { party: seller }),
-            Entry::Register { buyer, .. } | Entry::Market { buyer, .. }
-                if self.uncovered(entry, buyer) => Some(Refusal::NotCovered { party: buyer }),
+            Entry::Register { seller, .. } if self.uncovered(entry, seller) => Some(
+                Refusal::NotCovered { party: seller },
+            ),
+            Entry::Market { seller, .. } if self.uncovered(entry, seller) => Some(
+                Refusal::NotCovered { party: seller },
+            ),
+            Entry::Register { buyer, .. } if self.uncovered(entry, buyer) => Some(
+                Refusal::NotCovered { party: buyer },
+            ),
+            Entry::Market { buyer, .. } if self.uncovered(entry, buyer) => Some(
+                Refusal::NotCovered { party: buyer },
+            ),
             _ => None,
         }
     }
@@ -379,8 +401,12 @@ impl<P: Pricing, S: Sharing> Book<'_, P, S> {
         ensures { result ≡ first_of (cash_checks (standing_on (held self.now)) entry.now ++ cover_checks (terms self.now.sizes (P.Pricing.map self.now.pricing) (S.Sharing.map self.now.sharing)) (standing_on (held self.now)) entry.now) }
     {
         match *entry {
-            Entry::Deposit { party, .. } | Entry::Withdraw { party, .. }
-                if self.cash_beyond(entry, party) => Some(Refusal::CashBeyond { party }),
+            Entry::Deposit { party, .. } if self.cash_beyond(entry, party) => Some(
+                Refusal::CashBeyond { party },
+            ),
+            Entry::Withdraw { party, .. } if self.cash_beyond(entry, party) => Some(
+                Refusal::CashBeyond { party },
+            ),
             Entry::Market { seller, .. } if self.cash_beyond(entry, seller) => Some(
                 Refusal::CashBeyond { party: seller },
             ),
@@ -415,6 +441,18 @@ impl<P: Pricing, S: Sharing> Book<'_, P, S> {
         }
     }
 
+    // Rows 6 to 9 of an entry on a day.
+    fn from_day(&self, entry: &Entry, day: i64) -> Option<Refusal>
+        requires fits { Fits (held self.now) }
+        requires sane { Sane self.now.sizes entry.now }
+        ensures { result ≡ first_of ((state_check (standing_on (held self.now)) entry.now day ∷ []) ++ (kwh_checks (standing_on (held self.now)) entry.now ++ (cash_checks (standing_on (held self.now)) entry.now ++ cover_checks (terms self.now.sizes (P.Pricing.map self.now.pricing) (S.Sharing.map self.now.sharing)) (standing_on (held self.now)) entry.now))) }
+    {
+        match self.not_admitted(entry, day) {
+            Some(refusal) => Some(refusal),
+            None => self.from_kwh(entry),
+        }
+    }
+
     // Rows 6 to 9.
     fn from_state(&self, entry: &Entry) -> Option<Refusal>
         requires fits { Fits (held self.now) }
@@ -422,14 +460,11 @@ impl<P: Pricing, S: Sharing> Book<'_, P, S> {
         ensures { result ≡ first_of (book_checks (terms self.now.sizes (P.Pricing.map self.now.pricing) (S.Sharing.map self.now.sharing)) (standing_on (held self.now)) entry.now) }
     {
         match *entry {
-            Entry::Register { day, .. }
-            | Entry::Market { day, .. }
-            | Entry::Close { day }
-            | Entry::Regulate { day, .. }
-            | Entry::Meter { day, .. } => match self.not_admitted(entry, day) {
-                Some(refusal) => Some(refusal),
-                None => self.from_kwh(entry),
-            },
+            Entry::Register { day, .. } => self.from_day(entry, day),
+            Entry::Market { day, .. } => self.from_day(entry, day),
+            Entry::Close { day } => self.from_day(entry, day),
+            Entry::Regulate { day, .. } => self.from_day(entry, day),
+            Entry::Meter { day, .. } => self.from_day(entry, day),
             Entry::Evaluate { day, .. } => Some(Refusal::NotAdmitted {
                 state: self.state(index(day)),
             }),

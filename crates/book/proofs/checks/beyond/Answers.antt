@@ -1,4 +1,4 @@
-use Rattle.std.proofs.Common.{◌≡◌, Bool, true, not, ◌&&◌, ℤ, ◌+ℤ◌, neg_ℤ, sym, ap, ◌∙◌, rules}
+use Rattle.std.proofs.Common.{◌≡◌, Bool, true, not, ◌&&◌, ◌+ℤ◌, neg_ℤ, sym, ap, ◌∙◌, rules}
 use Rattle.hourly.specs.Bounds.{within}
 use Rattle.hourly.specs.Cells.{read}
 use Rattle.book.proofs.checks.beyond.Goals as goal

@@ -1,4 +1,4 @@
-use Rattle.std.proofs.Common.{◌≡◌, ◌≤◌, ℤ, ◌+ℤ◌, neg_ℤ, nat_abs, sym, ◌∙◌, subst, ap₂, arith, w64, to_z, of_z, rules}
+use Rattle.std.proofs.Common.{◌≡◌, ◌≤◌, ℤ, ◌+ℤ◌, neg_ℤ, nat_abs, sym, ◌∙◌, subst, ap₂, arith, rules}
 use Rattle.std.proofs.lemmas.Int.{ints}
 use Rattle.units.proofs.Integers.{sum-read}
 use Rattle.book.specs.Effects.{side}

@@ -1,4 +1,4 @@
-use Rattle.std.proofs.Common.{◌≤◌, length, sym, ap, arith, rules}
+use Rattle.std.proofs.Common.{◌≤◌, length, sym, ap, rules}
 use Rattle.std.proofs.lemmas.List.{get_or_past}
 use Rattle.book.specs.Held.{account_read, no_money}
 use Rattle.book.proofs.book.Book.account.Goals as goal

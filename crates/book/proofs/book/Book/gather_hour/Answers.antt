@@ -1,5 +1,5 @@
-use Rattle.std.proofs.Common.{◌≡◌, List, map, take, ℤ, sym, ap, ◌∙◌, ap₂, w64, to_z, of_z, rules}
-use Rattle.hourly.specs.Cells.{CellFigures, read}
+use Rattle.std.proofs.Common.{◌≡◌, List, map, take, ap, ◌∙◌, ap₂, rules}
+use Rattle.hourly.specs.Cells.{read}
 use Rattle.hourly.specs.Records.{HourFigures}
 use Rattle.sheet.specs.declared.row.Row.{Row}
 use Rattle.sheet.specs.Evaluation.{HourFacts}

@@ -1,4 +1,4 @@
-use Rattle.std.proofs.Common.{◌≡◌, ℤ, pos, ◌+ℤ◌, ◌∙◌, ap₂, w64, to_z, of_z, rules}
+use Rattle.std.proofs.Common.{◌≡◌, pos, ◌+ℤ◌, ◌∙◌, ap₂, w64, to_z, of_z, rules}
 use lib.Signed.{le_z}
 use Rattle.book.specs.Standing.{terms}
 use Rattle.book.specs.Checks.{cash_after, need_after, passes_cover}

@@ -1,4 +1,4 @@
-use Rattle.std.proofs.Common.{◌≡◌, length, ℤ, pos, sym, refl, ap, ◌∙◌, w64, to_z, of_z, rules}
+use Rattle.std.proofs.Common.{◌≡◌, length, pos, refl, ap, ◌∙◌, w64, to_z, of_z, rules}
 use Rattle.needs.specs.Need.{need_with}
 use Rattle.needs.specs.Prices.{in_use}
 use Rattle.book.specs.Standing.{terms}

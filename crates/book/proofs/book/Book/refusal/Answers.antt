@@ -1,9 +1,9 @@
-use Rattle.std.proofs.Common.{◌≡◌, true, false, Some, None, sym, ap, ◌∙◌, rules}
+use Rattle.std.proofs.Common.{◌≡◌, true, false, Some, None, sym, ◌∙◌, rules}
 use Rattle.std.proofs.lemmas.Bool.{cond-true, cond-false}
 use Rattle.entries.specs.Fields.{field_checks, first_of}
 use Rattle.entries.proofs.Passed.{earlier, later, sane}
 use Rattle.book.specs.Standing.{terms}
-use Rattle.book.specs.Checks.{book_checks, refusal_at}
+use Rattle.book.specs.Checks.{book_checks}
 use Rattle.book.specs.Held.{fits, held, standing_on}
 use Rattle.book.specs.Posting.{refusal_on}
 use Rattle.book.proofs.Places.{fitting}

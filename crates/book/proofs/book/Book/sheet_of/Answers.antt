@@ -1,6 +1,5 @@
-use Rattle.std.proofs.Common.{◌≡◌, ◌<◌, None, rules}
+use Rattle.std.proofs.Common.{◌<◌, rules}
 use Rattle.book.specs.Standing.{index}
-use Rattle.book.specs.Held.{Fits, held}
 use Rattle.book.proofs.book.Book.sheet_of.Goals as goal
 
 pub gather_hour-requires : goal.gather_hour-requires
