@@ -2,7 +2,7 @@ use Rattle.std.proofs.Common.{◌≡◌, ap, ◌∙◌, rules}
 use Rattle.book.specs.Held.{Held, held}
 use Rattle.book.specs.Opening.{sizes_of}
 use Rattle.book.specs.Posting.{opened}
-use Rattle.book.specs.Standing.{Terms, terms}
+use Rattle.book.specs.Standing.{terms}
 use Rattle.runs.specs.Runs.{ran, replied}
 use Rattle.runs.proofs.open_and_enter.Goals as goal
 
@@ -19,12 +19,12 @@ returns g c =
     let s : b.sharing ≡ c.args.sharing = search rules in
     record {
       held =
-          c.enter-all.ensures.held
+          c.enter_all.ensures.held
           ∙ ap (λ (x : Held). ran (terms x.sizes (f b.pricing) (k b.sharing)) x es) fresh
           ∙ ap (λ x. ran (terms h.sizes (f x) (k b.sharing)) h es) p
           ∙ ap (λ x. ran (terms h.sizes (f c.args.pricing) (k x)) h es) s;
       replies =
-          c.enter-all.ensures.replies
+          c.enter_all.ensures.replies
           ∙ ap (λ (x : Held). replied (terms x.sizes (f b.pricing) (k b.sharing)) x es rs) fresh
           ∙ ap (λ x. replied (terms h.sizes (f x) (k b.sharing)) h es rs) p
           ∙ ap (λ x. replied (terms h.sizes (f c.args.pricing) (k x)) h es rs) s;
