@@ -4,9 +4,7 @@ use lib.Signed.{le_z}
 use Rattle.hourly.specs.Bounds.{within}
 use Rattle.hourly.specs.Cells.{CellFigures}
 use Rattle.hourly.specs.Records.{HourFigures, deliverable}
-use Rattle.needs.specs.declared.hour.HourPrices.{HourPrices}
-use Rattle.needs.specs.Prices.{exposure}
-use Rattle.needs.specs.Need.{counted, day_counted, need, price_at, rounded_up, total}
+use Rattle.needs.specs.Need.{counted}
 use Rattle.entries.specs.declared.entry.DayState.{DayState}
 use Rattle.entries.specs.declared.entry.Entry.{Entry}
 use Rattle.entries.specs.declared.entry.Entry.TheVariants.{Deposit, Withdraw, Register, Market, Close, Regulate, Meter, Evaluate}

@@ -24,7 +24,7 @@ use Rattle.book.specs.Checks.{balance_at, book_checks, cash_checks, cover_check,
 use Rattle.book.specs.Posting.{replied_by}
 use Rattle.runs.specs.After.{state_after}
 use Rattle.runs.proofs.Taken.{both_pass}
-use Rattle.histories.specs.Histories.{History, accepted, cash, position, standing, state, step}
+use Rattle.histories.specs.Histories.{History, accepted, cash, position, standing, step}
 use Rattle.histories.specs.Covered.{KeepsCover, LeavesCovered, among, covered}
 use Rattle.book.proofs.Covering.{need-same}
 use Rattle.histories.proofs.Following.{accepted_makes, refused_stays}
