@@ -1,5 +1,5 @@
 -- The scanner reads just the forms, so where it stops no form goes on.
-use Rattle.std.proofs.Common.{◌≡◌, ℕ, ◌+◌, ◌-◌, ◌<◌, ◌≤◌, Bool, true, false, cond, eqb, leb, ◌⊎◌, List, [], ◌∷◌, ◌++◌, length, get_or, take, drop, Some, None, Option, sym, refl, ap, ◌∙◌, subst, inl, inr, ⊎_elim, append_assoc, arith, take-append-drop, rules}
+use Rattle.std.proofs.Common.{◌≡◌, ℕ, ◌+◌, ◌-◌, ◌<◌, ◌≤◌, true, eqb, ◌⊎◌, List, [], ◌∷◌, ◌++◌, length, get_or, take, drop, Some, None, Option, sym, refl, ap, ◌∙◌, subst, inl, inr, ⊎_elim, append_assoc, arith, take-append-drop}
 use Rattle.std.proofs.lemmas.List.{take_more, take_all, take-take}
 use Rattle.std.specs.List.{AllByRecursion as All}
 use Rattle.std.proofs.lemmas.Bool.{cond_both, cond-true, eqb-true, cases_lt}
@@ -7,7 +7,7 @@ use Rattle.std.proofs.lemmas.Bool.Decides.{nat_tests}
 use Rattle.brackets.specs.declared.State.{State}
 use Rattle.brackets.specs.declared.State.TheVariants.{Start, Bracket, Head, Gap, Inner, Name, Sign, Minus, Digits, Between, End}
 use Rattle.brackets.specs.Bytes.{Letter, Digit, letter, digit}
-use Rattle.brackets.specs.Grammar.{Word, Numeral, Field, GoodField, rest, text, WellShaped, Begins, Stuck, Only}
+use Rattle.brackets.specs.Grammar.{Word, Numeral, Field, GoodField, rest, WellShaped, Begins, Stuck, Only}
 use Rattle.brackets.specs.Scanner.{step, next, run}
 
 pub run-append : (o : Option State) (p t : List ℕ) → run o (p ++ t) ≡ run (run o p) t
