@@ -70,8 +70,12 @@ fn from_values(entry: &Entry) -> Option<Refusal>
     ensures { result ≡ first_of (value_checks entry.now ++ trader_checks entry.now) }
 {
     match *entry {
-        Entry::Deposit { haler, .. } | Entry::Withdraw { haler, .. }
-            if !between(1, MOST_HALERS, haler) => Some(Refusal::OutOfRange { given: haler }),
+        Entry::Deposit { haler, .. } if !between(1, MOST_HALERS, haler) => Some(
+            Refusal::OutOfRange { given: haler },
+        ),
+        Entry::Withdraw { haler, .. } if !between(1, MOST_HALERS, haler) => Some(
+            Refusal::OutOfRange { given: haler },
+        ),
         Entry::Register { kwh, .. } if !between(1, MOST_KWH, kwh) => Some(Refusal::OutOfRange {
             given: kwh,
         }),
@@ -100,10 +104,9 @@ fn from_hours(entry: &Entry) -> Option<Refusal>
     ensures { result ≡ first_of (hour_checks entry.now ++ (value_checks entry.now ++ trader_checks entry.now)) }
 {
     match *entry {
-        Entry::Register { from, to, .. }
-        | Entry::Market { from, to, .. }
-        | Entry::Meter { from, to, .. }
-            if !hours(from, to) => Some(Refusal::HourOrRange { from }),
+        Entry::Register { from, to, .. } if !hours(from, to) => Some(Refusal::HourOrRange { from }),
+        Entry::Market { from, to, .. } if !hours(from, to) => Some(Refusal::HourOrRange { from }),
+        Entry::Meter { from, to, .. } if !hours(from, to) => Some(Refusal::HourOrRange { from }),
         Entry::Regulate { hour, .. } if !between(1, 24, hour) => Some(Refusal::HourOrRange {
             from: hour,
         }),
@@ -116,13 +119,12 @@ fn from_day(sizes: &Sizes, entry: &Entry) -> Option<Refusal>
     ensures { result ≡ first_of (map (day_check sizes.now) (day_of entry.now) ++ (hour_checks entry.now ++ (value_checks entry.now ++ trader_checks entry.now))) }
 {
     match *entry {
-        Entry::Register { day, .. }
-        | Entry::Market { day, .. }
-        | Entry::Close { day }
-        | Entry::Regulate { day, .. }
-        | Entry::Meter { day, .. }
-        | Entry::Evaluate { day, .. }
-            if !known(sizes.days, day) => Some(Refusal::UnknownDay { day }),
+        Entry::Register { day, .. } if !known(sizes.days, day) => Some(Refusal::UnknownDay { day }),
+        Entry::Market { day, .. } if !known(sizes.days, day) => Some(Refusal::UnknownDay { day }),
+        Entry::Close { day } if !known(sizes.days, day) => Some(Refusal::UnknownDay { day }),
+        Entry::Regulate { day, .. } if !known(sizes.days, day) => Some(Refusal::UnknownDay { day }),
+        Entry::Meter { day, .. } if !known(sizes.days, day) => Some(Refusal::UnknownDay { day }),
+        Entry::Evaluate { day, .. } if !known(sizes.days, day) => Some(Refusal::UnknownDay { day }),
         _ => from_hours(entry),
     }
 }
@@ -132,15 +134,30 @@ pub fn check_fields(sizes: &Sizes, entry: &Entry) -> Option<Refusal>
     ensures { result ≡ first_of (field_checks sizes.now entry.now) }
 {
     match *entry {
-        Entry::Deposit { party, .. }
-        | Entry::Withdraw { party, .. }
-        | Entry::Regulate { party, .. }
-        | Entry::Meter { party, .. }
-            if !known(sizes.parties, party) => Some(Refusal::UnknownParty { party }),
-        Entry::Register { seller, .. } | Entry::Market { seller, .. }
-            if !known(sizes.parties, seller) => Some(Refusal::UnknownParty { party: seller }),
-        Entry::Register { buyer, .. } | Entry::Market { buyer, .. }
-            if !known(sizes.parties, buyer) => Some(Refusal::UnknownParty { party: buyer }),
+        Entry::Deposit { party, .. } if !known(sizes.parties, party) => Some(Refusal::UnknownParty {
+            party,
+        }),
+        Entry::Withdraw { party, .. } if !known(sizes.parties, party) => Some(
+            Refusal::UnknownParty { party },
+        ),
+        Entry::Regulate { party, .. } if !known(sizes.parties, party) => Some(
+            Refusal::UnknownParty { party },
+        ),
+        Entry::Meter { party, .. } if !known(sizes.parties, party) => Some(Refusal::UnknownParty {
+            party,
+        }),
+        Entry::Register { seller, .. } if !known(sizes.parties, seller) => Some(
+            Refusal::UnknownParty { party: seller },
+        ),
+        Entry::Market { seller, .. } if !known(sizes.parties, seller) => Some(
+            Refusal::UnknownParty { party: seller },
+        ),
+        Entry::Register { buyer, .. } if !known(sizes.parties, buyer) => Some(
+            Refusal::UnknownParty { party: buyer },
+        ),
+        Entry::Market { buyer, .. } if !known(sizes.parties, buyer) => Some(Refusal::UnknownParty {
+            party: buyer,
+        }),
         _ => from_day(sizes, entry),
     }
 }

@@ -1,11 +1,11 @@
 -- Deliveries after one more are within the bounds of their direction. Assumes nothing.
-use Rattle.std.proofs.Common.{◌≡◌, ℕ, ◌+◌, ◌*◌, ◌≤◌, Bool, true, false, cond, ◌&&◌, eqb, leb, ℤ, pos, ◌+ℤ◌, ◌*ℤ◌, nat_abs, ◌≤ℤ◌, Some, None, Option, sym, refl, ap, ◌∙◌, subst, arith}
+use Rattle.std.proofs.Common.{◌≡◌, ℕ, ◌+◌, ◌*◌, ◌≤◌, Bool, true, false, eqb, ℤ, pos, ◌+ℤ◌, ◌*ℤ◌, nat_abs, ◌≤ℤ◌, Some, None, Option, ap, ◌∙◌, arith}
 use lib.IntN.{*ℤ_comm, *ℤ-zero}
 use lib.Signed.{le_z, lt_z}
 use Rattle.std.proofs.lemmas.Int.{ints}
 use Rattle.std.proofs.lemmas.Bool.{and_parts, and_from, cond_both, eqb-true, le-leb, leb-true}
 use Rattle.units.proofs.Integers.{mul_mono, mul_sum, product_within, sum-within}
-use Rattle.hourly.specs.Bounds.{deliveries_ok, not_beyond, within}
+use Rattle.hourly.specs.Bounds.{deliveries_ok, not_beyond}
 use Rattle.hourly.specs.Records.{extreme_of}
 
 at_most : (a b : ℤ) → le_z a b ≡ true → a ≤ℤ b

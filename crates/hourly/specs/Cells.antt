@@ -4,7 +4,7 @@
 --   sound p     plain numbers are those of some cell
 --   read p      the cell that they stand for: the cleared one if they are not sound
 --   plain f     figures laid down as plain numbers
-use Rattle.std.specs.Prelude.{ℕ, Bool, true, false, cond, not, ◌&&◌, ◌||◌, eqb, ℤ, pos, nat_abs, is_some, Some, None, Option}
+use Rattle.std.specs.Prelude.{Bool, cond, ◌&&◌, ℤ, pos, is_some, Some, None, Option}
 use Rattle.std.specs.Option.{unwrap_or}
 use Rattle.hourly.specs.declared.cell.Cell.{Cell}
 use Rattle.hourly.specs.declared.plain.PlainCell.{PlainCell}

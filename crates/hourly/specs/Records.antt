@@ -4,7 +4,7 @@
 --   record_sound p     plain numbers are those of some record
 --   record_read p      the record that they stand for: the cleared one if they are not sound
 --   record_plain h     figures laid down as plain numbers
-use Rattle.std.specs.Prelude.{ℕ, ◌+◌, ◌*◌, Bool, true, false, cond, ◌&&◌, ℤ, pos, ◌+ℤ◌, ◌*ℤ◌, is_some, Some, None, Option, ◌==◌, int_lt, nat_le, unsigned_abs}
+use Rattle.std.specs.Prelude.{ℕ, ◌+◌, Bool, true, false, cond, ◌&&◌, ℤ, pos, ◌+ℤ◌, ◌*ℤ◌, is_some, Some, None, Option, ◌==◌, int_lt, nat_le, unsigned_abs}
 use Rattle.std.specs.Option.{unwrap_or}
 use Rattle.hourly.specs.declared.deliveries.Deliveries.{Deliveries}
 use Rattle.hourly.specs.declared.record.HourRecord.{HourRecord}

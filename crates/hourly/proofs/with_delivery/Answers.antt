@@ -7,11 +7,11 @@ use Rattle.hourly.specs.Records.{extreme_of, with_delivery}
 use Rattle.hourly.proofs.Delivering.{delivered_ok, total_small}
 use Rattle.hourly.proofs.with_delivery.Goals as goal
 
-pub overflow-add-result-2 : goal.overflow-add-result-2
-overflow-add-result-2 c =
+pub overflow_add-result-2 : goal.overflow_add-result-2
+overflow_add-result-2 c =
     let d = c.args.d.now in
     let t = total_small c.args.upward d.kwh d.total d.extreme c.requires.sound in
-    let b = c.delivery-tenths-tenths.ensures.bound in
+    let b = c.delivery_tenths-tenths.ensures.bound in
     omega (arith, ints)
 
 abbrev made : ℕ → ℤ → ℤ → Deliveries
@@ -23,10 +23,10 @@ returns c =
     let up = c.args.upward in
     let k = c.args.kwh in
     let p = c.args.price in
-    let t = c.delivery-tenths-tenths.result in
-    let e = c.extreme-after-extreme.result in
+    let t = c.delivery_tenths-tenths.result in
+    let e = c.extreme_after-extreme.result in
     let small = total_small up d.kwh d.total d.extreme c.requires.sound in
-    let b : nat_abs t ≤ 49999400001 = c.delivery-tenths-tenths.ensures.bound in
+    let b : nat_abs t ≤ 49999400001 = c.delivery_tenths-tenths.ensures.bound in
     let tv : t ≡ pos k *ℤ p = search rules in
     let ev : to_z w64 (of_z w64 e) ≡ extreme_of up d.extreme p = search rules in
     let s : to_z w64 (of_z w64 (to_z w64 (of_z w64 d.total) +ℤ to_z w64 (of_z w64 t))) ≡ d.total +ℤ t = sum-read d.total t (omega arith) (omega arith) in
