@@ -1,5 +1,5 @@
 -- Reading what is written gives it back: of all answers that a line may get, the text of a form has one.
-use Rattle.std.proofs.Common.{◌≡◌, ℕ, ◌+◌, ◌<◌, ◌≤◌, Bool, true, false, cond, ◌⊎◌, List, [], ◌∷◌, ◌++◌, map, length, get_or, ℤ, pos, Ok, Err, Result, sym, refl, ap, ◌∙◌, subst, inl, inr, ⊎_elim, append_assoc, arith}
+use Rattle.std.proofs.Common.{◌≡◌, ℕ, ◌+◌, ◌≤◌, Bool, true, false, cond, ◌⊎◌, List, [], ◌∷◌, ◌++◌, length, get_or, ℤ, pos, Ok, Err, Result, sym, refl, ap, ◌∙◌, subst, ⊎_elim, append_assoc, arith}
 use Rattle.std.specs.List.{AllByRecursion as All}
 use Rattle.std.specs.Str.{bytes_eq}
 use Rattle.std.proofs.ByRecursion.{All-get_or, All-append, All-weaker}
@@ -8,7 +8,7 @@ use Rattle.std.proofs.lemmas.Bool.{cond_both, both_ways}
 use Rattle.std.proofs.lemmas.Bool.Decides.{nat_tests}
 use Rattle.brackets.specs.declared.BracketFault.TheVariants.{Long, Byte, Shape}
 use Rattle.brackets.specs.Bytes.{Letter, Digit, letter, admitted, Admitted, Clean}
-use Rattle.brackets.specs.Grammar.{Word, Field, GoodField, rest, text, IsForm}
+use Rattle.brackets.specs.Grammar.{Word, Field, GoodField, rest, IsForm}
 use Rattle.words.specs.declared.form.Form.{Form}
 use Rattle.words.specs.declared.form.Form.TheVariants.{Book, Entry as Entered, Show}
 use Rattle.entries.specs.declared.entry.Entry.TheVariants.{Deposit, Withdraw, Register, Market, Close, Regulate, Meter, Evaluate}
@@ -18,8 +18,8 @@ use Rattle.words.specs.declared.faults.WordFault.{WordFault}
 use Rattle.words.specs.declared.faults.WordFault.TheVariants.{Bracket, Head, Field as Misnamed, Number as Malformed}
 use Rattle.words.specs.Forms.{kind_of, numbers_of}
 use Rattle.words.specs.Heads.{head_text, field_names}
-use Rattle.words.specs.Numbers.{value, Sound}
-use Rattle.words.specs.Layer.{name_of, names_of, Starts, Misfit, FirstUnsound, Reads}
+use Rattle.words.specs.Numbers.{Sound}
+use Rattle.words.specs.Layer.{name_of, names_of, Misfit, FirstUnsound, Reads}
 use Rattle.words.specs.Written.{fields_of, form_text, Short, ReadsBack}
 use Rattle.words.proofs.Naming.{length-text}
 use Rattle.words.proofs.Writing.{all_good, all_sound_of, names_of_lem, values_of, room, within}

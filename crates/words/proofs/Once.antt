@@ -1,18 +1,18 @@
 -- A line has one answer of layers 1 and 2: the relations of the layer say no more and no less than the walk over the fields.
-use Rattle.std.proofs.Common.{◌≡◌, ℕ, ◌+◌, ◌<◌, ◌≤◌, Bool, true, false, cond, ◌⊎◌, List, [], ◌∷◌, ◌++◌, map, length, Some, None, Ok, Err, Option, Result, sym, refl, ap, ◌∙◌, subst, inl, inr, ⊎_elim, arith}
+use Rattle.std.proofs.Common.{◌≡◌, ℕ, ◌+◌, true, ◌⊎◌, List, [], ◌∷◌, ◌++◌, length, Some, Ok, Err, Option, Result, sym, refl, ap, ◌∙◌, subst, inl, inr, ⊎_elim, arith}
 use Rattle.std.specs.List.{AllByRecursion as All}
 use Rattle.std.specs.Str.{bytes_eq}
 use Rattle.std.proofs.lemmas.Slice.Eq.{bytes_eq-Decides}
 use Rattle.std.proofs.lemmas.Bool.{cond-true, cond-false, cases_Bool}
 use Rattle.brackets.specs.declared.BracketFault.{BracketFault}
-use Rattle.brackets.specs.Grammar.{Field, GoodField, rest, text, IsForm}
+use Rattle.brackets.specs.Grammar.{Field, GoodField, rest}
 use Rattle.brackets.specs.Layer.{Brackets}
 use Rattle.brackets.proofs.Once.{bracket_once}
 use Rattle.words.specs.declared.form.Form.{Form}
 use Rattle.words.specs.declared.reading.Kind.{Kind}
 use Rattle.words.specs.declared.faults.WordFault.{WordFault}
 use Rattle.words.specs.declared.faults.WordFault.TheVariants.{Bracket, Head, Field as Misnamed, Number as Malformed}
-use Rattle.words.specs.Forms.{kind_of, numbers_of}
+use Rattle.words.specs.Forms.{kind_of}
 use Rattle.words.specs.Heads.{head_text, field_names}
 use Rattle.words.specs.Numbers.{Sound}
 use Rattle.words.specs.Walk.{malformed, width, number_text, all_named, first_malformed}

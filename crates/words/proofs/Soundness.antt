@@ -1,10 +1,9 @@
 -- The walk over the numbers of fields, in the words of the layer.
-use Rattle.std.proofs.Common.{◌≡◌, ℕ, ◌+◌, ◌-◌, ◌<◌, ◌≤◌, Bool, true, false, cond, eqb, ltb, ◌⊎◌, List, [], ◌∷◌, ◌++◌, map, length, get_or, drop, ℤ, pos, neg_ℤ, Some, None, Option, sym, refl, ap, ◌∙◌, subst, inl, inr, ⊎_elim, arith}
+use Rattle.std.proofs.Common.{◌≡◌, ℕ, ◌+◌, ◌<◌, ◌≤◌, true, false, eqb, ◌⊎◌, List, [], ◌∷◌, ◌++◌, map, length, get_or, drop, pos, neg_ℤ, Some, None, Option, sym, refl, ap, ◌∙◌, inl, inr, ⊎_elim, arith}
 use Rattle.std.specs.List.{AllByRecursion as All}
 use Rattle.std.proofs.lemmas.Bool.{cond-true, cond-false, cases_Bool, cases_order}
 use Rattle.std.proofs.lemmas.Bool.Decides.{nat_tests}
-use Rattle.brackets.specs.Bytes.{Digit}
-use Rattle.brackets.specs.Grammar.{Numeral, Field, GoodField, rest, text}
+use Rattle.brackets.specs.Grammar.{Numeral, Field, GoodField, rest}
 use Rattle.words.specs.Numbers.{decimal_value, with_sign, value, Sound}
 use Rattle.words.specs.Walk.{malformed, text_value, width, number_text, field_value, first_malformed}
 use Rattle.words.specs.Layer.{FirstUnsound}

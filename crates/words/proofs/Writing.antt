@@ -1,13 +1,13 @@
 -- Fields as they are written: of the right shape, sound, and with the values that they were written from.
-use Rattle.std.proofs.Common.{◌≡◌, ℕ, suc, ◌+◌, ◌-◌, ◌*◌, ◌^◌, ◌<◌, ◌≤◌, Bool, true, false, cond, ◌⊎◌, List, [], ◌∷◌, ◌++◌, map, length, get_or, ℤ, pos, negsuc, neg_ℤ, nat_abs, decimal, sym, refl, ap, ◌∙◌, subst, inl, inr, ⊎_elim, arith, length-append, rules}
+use Rattle.std.proofs.Common.{◌≡◌, ℕ, suc, ◌+◌, ◌^◌, ◌<◌, ◌≤◌, List, [], ◌∷◌, map, length, get_or, ℤ, pos, negsuc, neg_ℤ, decimal, refl, ap, inl, inr, ⊎_elim, arith, rules}
 use Rattle.std.specs.List.{AllByRecursion as All}
 use Rattle.std.proofs.lemmas.Str.Parse.{IsNumeralModel, numerals_by_weight}
 use Rattle.std.proofs.lemmas.Fmt.{decimal_nonempty, decimal_digit, first_decimal, length-decimal-le, digits_decimal, digits_value-decimal}
 use Rattle.std.proofs.lemmas.Bool.{cases_lt}
-use Rattle.brackets.specs.Bytes.{Letter, Digit}
-use Rattle.brackets.specs.Grammar.{Word, Numeral, Field, GoodField, rest}
+use Rattle.brackets.specs.Bytes.{Digit}
+use Rattle.brackets.specs.Grammar.{Word, Numeral, GoodField, rest}
 use Rattle.words.specs.Numbers.{decimal_value, value, Sound}
-use Rattle.words.specs.Layer.{name_of, names_of}
+use Rattle.words.specs.Layer.{names_of}
 use Rattle.words.specs.Walk.{width}
 use Rattle.words.specs.Written.{field_of, fields_of, Digits18}
 use Rattle.words.proofs.Naming.{length_rest}

@@ -1,6 +1,6 @@
 -- How a form is written, and that reading it gives it back. Assumes nothing.
 --
---   form_text f         the line that says f
+--   form_text f        the line that says f
 --   Short f            each of its numbers has at most 18 digits
 --   ReadsBack line r   if the line is the text of such a form, r is that form
 use Rattle.std.specs.Prelude.{◌≡◌, ℕ, suc, ◌^◌, ◌<◌, List, [], ◌∷◌, ℤ, pos, negsuc, Ok, decimal, Result, unsigned_abs}
