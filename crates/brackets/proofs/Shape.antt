@@ -1,13 +1,13 @@
 -- The scanner reads just the forms, so where it stops no form goes on.
-use Rattle.std.proofs.Common.{◌≡◌, ℕ, ◌+◌, ◌-◌, ◌<◌, ◌≤◌, Bool, true, false, cond, eqb, leb, ◌⊎◌, List, [], ◌∷◌, ◌++◌, length, get_or, take, drop, Some, None, Option, sym, refl, ap, ◌∙◌, subst, inl, inr, ⊎_elim, append_assoc, arith, take-append-drop, rules}
+use Rattle.std.proofs.Common.{◌≡◌, ℕ, ◌+◌, ◌-◌, ◌<◌, ◌≤◌, true, eqb, ◌⊎◌, List, [], ◌∷◌, ◌++◌, length, get_or, take, drop, Some, None, Option, sym, refl, ap, ◌∙◌, subst, inl, inr, ⊎_elim, append_assoc, arith, take-append-drop}
 use Rattle.std.proofs.lemmas.List.{take_more, take_all, take-take}
-use Rattle.std.specs.List.{AllByRecursion as All}
+use Rattle.std.specs.List.{AllByRecursion}
 use Rattle.std.proofs.lemmas.Bool.{cond_both, cond-true, eqb-true, cases_lt}
 use Rattle.std.proofs.lemmas.Bool.Decides.{nat_tests}
 use Rattle.brackets.specs.declared.State.{State}
 use Rattle.brackets.specs.declared.State.TheVariants.{Start, Bracket, Head, Gap, Inner, Name, Sign, Minus, Digits, Between, End}
 use Rattle.brackets.specs.Bytes.{Letter, Digit, letter, digit}
-use Rattle.brackets.specs.Grammar.{Word, Numeral, Field, GoodField, rest, text, WellShaped, Begins, Stuck, Only}
+use Rattle.brackets.specs.Grammar.{Word, Numeral, Field, GoodField, rest, WellShaped, Begins, Stuck, Only}
 use Rattle.brackets.specs.Scanner.{step, next, run}
 
 pub run-append : (o : Option State) (p t : List ℕ) → run o (p ++ t) ≡ run (run o p) t
@@ -42,15 +42,15 @@ after sg ds fs = sg ++ (ds ++ (41 ∷ rest fs))
 -- t completes a form in this state
 abbrev Rest : State → List ℕ → Type 0
 Rest Start t = WellShaped t
-Rest Bracket t = (w : List ℕ) × (fs : List Field) × Word w × All GoodField fs × (t ≡ w ++ rest fs)
-Rest Head t = (w : List ℕ) × (fs : List Field) × All Letter w × All GoodField fs × (t ≡ w ++ rest fs)
-Rest Gap t = (f : Field) × (fs : List Field) × GoodField f × All GoodField fs × (t ≡ 40 ∷ (f.name ++ (32 ∷ after f.sign f.digits fs)))
-Rest Inner t = (f : Field) × (fs : List Field) × GoodField f × All GoodField fs × (t ≡ f.name ++ (32 ∷ after f.sign f.digits fs))
-Rest Name t = (w : List ℕ) × (sg : List ℕ) × (ds : List ℕ) × (fs : List Field) × All Letter w × Signed sg × Numeral ds × All GoodField fs × (t ≡ w ++ (32 ∷ after sg ds fs))
-Rest Sign t = (sg : List ℕ) × (ds : List ℕ) × (fs : List Field) × Signed sg × Numeral ds × All GoodField fs × (t ≡ after sg ds fs)
-Rest Minus t = (ds : List ℕ) × (fs : List Field) × Numeral ds × All GoodField fs × (t ≡ ds ++ (41 ∷ rest fs))
-Rest Digits t = (ds : List ℕ) × (fs : List Field) × All Digit ds × All GoodField fs × (t ≡ ds ++ (41 ∷ rest fs))
-Rest Between t = (fs : List Field) × All GoodField fs × (t ≡ rest fs)
+Rest Bracket t = (w : List ℕ) × (fs : List Field) × Word w × AllByRecursion GoodField fs × (t ≡ w ++ rest fs)
+Rest Head t = (w : List ℕ) × (fs : List Field) × AllByRecursion Letter w × AllByRecursion GoodField fs × (t ≡ w ++ rest fs)
+Rest Gap t = (f : Field) × (fs : List Field) × GoodField f × AllByRecursion GoodField fs × (t ≡ 40 ∷ (f.name ++ (32 ∷ after f.sign f.digits fs)))
+Rest Inner t = (f : Field) × (fs : List Field) × GoodField f × AllByRecursion GoodField fs × (t ≡ f.name ++ (32 ∷ after f.sign f.digits fs))
+Rest Name t = (w : List ℕ) × (sg : List ℕ) × (ds : List ℕ) × (fs : List Field) × AllByRecursion Letter w × Signed sg × Numeral ds × AllByRecursion GoodField fs × (t ≡ w ++ (32 ∷ after sg ds fs))
+Rest Sign t = (sg : List ℕ) × (ds : List ℕ) × (fs : List Field) × Signed sg × Numeral ds × AllByRecursion GoodField fs × (t ≡ after sg ds fs)
+Rest Minus t = (ds : List ℕ) × (fs : List Field) × Numeral ds × AllByRecursion GoodField fs × (t ≡ ds ++ (41 ∷ rest fs))
+Rest Digits t = (ds : List ℕ) × (fs : List Field) × AllByRecursion Digit ds × AllByRecursion GoodField fs × (t ≡ ds ++ (41 ∷ rest fs))
+Rest Between t = (fs : List Field) × AllByRecursion GoodField fs × (t ≡ rest fs)
 Rest End t = t ≡ []
 
 both : {a b : ℕ} {s t : List ℕ} → a ≡ b → s ≡ t → a ∷ s ≡ b ∷ t
@@ -120,11 +120,11 @@ pub sound : (t : List ℕ) (s : State) → run (Some s) t ≡ Some End → Rest 
 sound [] s h = at_end s h
 sound (b ∷ t) s h = back s b t h (sound t)
 
-loops : (s : State) (P : ℕ → Type 0) → ((b : ℕ) → P b → step s b ≡ Some s) → (w t : List ℕ) → All P w → run (Some s) (w ++ t) ≡ run (Some s) t
+loops : (s : State) (P : ℕ → Type 0) → ((b : ℕ) → P b → step s b ≡ Some s) → (w t : List ℕ) → AllByRecursion P w → run (Some s) (w ++ t) ≡ run (Some s) t
 loops s P f [] t a = refl
 loops s P f (b ∷ w) t a = ap (λ o. run o (w ++ t)) (f b a.0) ∙ loops s P f w t a.1
 
-enters : (s u : State) (P : ℕ → Type 0) → ((b : ℕ) → P b → step s b ≡ Some u) → ((b : ℕ) → P b → step u b ≡ Some u) → (w t : List ℕ) → 0 < length w → All P w → run (Some s) (w ++ t) ≡ run (Some u) t
+enters : (s u : State) (P : ℕ → Type 0) → ((b : ℕ) → P b → step s b ≡ Some u) → ((b : ℕ) → P b → step u b ≡ Some u) → (w t : List ℕ) → 0 < length w → AllByRecursion P w → run (Some s) (w ++ t) ≡ run (Some u) t
 enters s u P f g [] t n a = absurd (omega arith)
 enters s u P f g (b ∷ w) t n a = ap (λ o. run o (w ++ t)) (f b a.0) ∙ loops u P g w t a.1
 
@@ -135,7 +135,7 @@ signs sg ds t s n =
     (λ e. ap (λ x. run (Some Sign) (x ++ (ds ++ t))) e ∙ enters Minus Digits Digit (λ b l. cond-true (digit b) _ _ (is_digit b l)) (λ b l. cond-true (digit b) _ _ (is_digit b l)) ds t n.0 n.1)
     s
 
-fields_run : (fs : List Field) → All GoodField fs → run (Some Between) (rest fs) ≡ Some End
+fields_run : (fs : List Field) → AllByRecursion GoodField fs → run (Some Between) (rest fs) ≡ Some End
 fields_run [] a = refl
 fields_run (f ∷ fs) a =
     enters Inner Name Letter (λ b l. cond-true (letter b) _ _ (is_letter b l)) (λ b l. cond-true (letter b) _ _ (is_letter b l)) f.name (32 ∷ after f.sign f.digits fs) a.0.named.0 a.0.named.1
@@ -143,7 +143,7 @@ fields_run (f ∷ fs) a =
     ∙ fields_run fs a.1
 
 -- after a head, too
-head_run : (fs : List Field) → All GoodField fs → run (Some Head) (rest fs) ≡ Some End
+head_run : (fs : List Field) → AllByRecursion GoodField fs → run (Some Head) (rest fs) ≡ Some End
 head_run [] a = refl
 head_run (f ∷ fs) a = fields_run (f ∷ fs) a
 

@@ -31,7 +31,7 @@ fn feed<W: Write>(out: &mut W, room: &mut [u8], input: &mut Input, block: &[u8])
 fn main(rt: HostRuntime) -> io::Result<()> {
     let heap: Global = rt.alloc();
     let mut source = rt.stdin();
-    let mut out = BufWriter::new(rt.alloc(), rt.stdout())?;
+    let mut out = BufWriter::new(heap, rt.stdout())?;
     let mut room = vec![in heap; 0u8; ROOM]?;
     let mut block = vec![in heap; 0u8; BLOCK]?;
     let mut input = Input::new();

@@ -1,6 +1,6 @@
 -- Reading what is written gives it back: of all answers that a line may get, the text of a form has one.
-use Rattle.std.proofs.Common.{◌≡◌, ℕ, ◌+◌, ◌<◌, ◌≤◌, Bool, true, false, cond, ◌⊎◌, List, [], ◌∷◌, ◌++◌, map, length, get_or, ℤ, pos, Ok, Err, Result, sym, refl, ap, ◌∙◌, subst, inl, inr, ⊎_elim, append_assoc, arith}
-use Rattle.std.specs.List.{AllByRecursion as All}
+use Rattle.std.proofs.Common.{◌≡◌, ℕ, ◌+◌, ◌≤◌, Bool, true, false, cond, ◌⊎◌, List, [], ◌∷◌, ◌++◌, length, get_or, ℤ, pos, Ok, Err, Result, sym, refl, ap, ◌∙◌, subst, ⊎_elim, append_assoc, arith}
+use Rattle.std.specs.List.{AllByRecursion}
 use Rattle.std.specs.Str.{bytes_eq}
 use Rattle.std.proofs.ByRecursion.{All-get_or, All-append, All-weaker}
 use Rattle.std.proofs.lemmas.List.{map-append}
@@ -8,7 +8,7 @@ use Rattle.std.proofs.lemmas.Bool.{cond_both, both_ways}
 use Rattle.std.proofs.lemmas.Bool.Decides.{nat_tests}
 use Rattle.brackets.specs.declared.BracketFault.TheVariants.{Long, Byte, Shape}
 use Rattle.brackets.specs.Bytes.{Letter, Digit, letter, admitted, Admitted, Clean}
-use Rattle.brackets.specs.Grammar.{Word, Field, GoodField, rest, text, IsForm}
+use Rattle.brackets.specs.Grammar.{Word, Field, GoodField, rest, IsForm}
 use Rattle.words.specs.declared.form.Form.{Form}
 use Rattle.words.specs.declared.form.Form.TheVariants.{Book, Entry as Entered, Show}
 use Rattle.entries.specs.declared.entry.Entry.TheVariants.{Deposit, Withdraw, Register, Market, Close, Regulate, Meter, Evaluate}
@@ -18,8 +18,8 @@ use Rattle.words.specs.declared.faults.WordFault.{WordFault}
 use Rattle.words.specs.declared.faults.WordFault.TheVariants.{Bracket, Head, Field as Misnamed, Number as Malformed}
 use Rattle.words.specs.Forms.{kind_of, numbers_of}
 use Rattle.words.specs.Heads.{head_text, field_names}
-use Rattle.words.specs.Numbers.{value, Sound}
-use Rattle.words.specs.Layer.{name_of, names_of, Starts, Misfit, FirstUnsound, Reads}
+use Rattle.words.specs.Numbers.{Sound}
+use Rattle.words.specs.Layer.{name_of, names_of, Misfit, FirstUnsound, Reads}
 use Rattle.words.specs.Written.{fields_of, form_text, Short, ReadsBack}
 use Rattle.words.proofs.Naming.{length-text}
 use Rattle.words.proofs.Writing.{all_good, all_sound_of, names_of_lem, values_of, room, within}
@@ -29,10 +29,10 @@ abbrev lettered : List ℕ → Bool
 lettered [] = true
 lettered (b ∷ w) = cond (letter b) (lettered w) false
 
-letters : (w : List ℕ) → lettered w ≡ true → All Letter w
+letters : (w : List ℕ) → lettered w ≡ true → AllByRecursion Letter w
 letters [] e = tt
 letters (b ∷ w) e =
-    cond_both (letter b) (lettered w) false (λ r. r ≡ true → All Letter (b ∷ w))
+    cond_both (letter b) (lettered w) false (λ r. r ≡ true → AllByRecursion Letter (b ∷ w))
     (λ l k. (grind (arith, nat_tests), letters w k))
     (λ l k. absurd (both_ways false refl k)) e
 
@@ -41,11 +41,11 @@ worded [] = true
 worded ([] ∷ ws) = false
 worded ((b ∷ w) ∷ ws) = cond (lettered (b ∷ w)) (worded ws) false
 
-words : (ws : List (List ℕ)) → worded ws ≡ true → All Word ws
+words : (ws : List (List ℕ)) → worded ws ≡ true → AllByRecursion Word ws
 words [] e = tt
 words ([] ∷ ws) e = absurd (both_ways false refl e)
 words ((b ∷ w) ∷ ws) e =
-    cond_both (lettered (b ∷ w)) (worded ws) false (λ r. r ≡ true → All Word ((b ∷ w) ∷ ws))
+    cond_both (lettered (b ∷ w)) (worded ws) false (λ r. r ≡ true → AllByRecursion Word ((b ∷ w) ∷ ws))
     (λ l k. ((omega arith, letters (b ∷ w) l), words ws k))
     (λ l k. absurd (both_ways false refl k)) e
 
@@ -167,23 +167,23 @@ letter_in b h = grind (arith, nat_tests)
 digit_in : (b : ℕ) → Digit b → Admitted b
 digit_in b h = grind (arith, nat_tests)
 
-sign_in : (sg : List ℕ) → (sg ≡ []) ⊎ (sg ≡ 45 ∷ []) → All Admitted sg
-sign_in sg s = ⊎_elim (λ e. subst (All Admitted) (sym e) tt) (λ e. subst (All Admitted) (sym e) (refl, tt)) s
+sign_in : (sg : List ℕ) → (sg ≡ []) ⊎ (sg ≡ 45 ∷ []) → AllByRecursion Admitted sg
+sign_in sg s = ⊎_elim (λ e. subst (AllByRecursion Admitted) (sym e) tt) (λ e. subst (AllByRecursion Admitted) (sym e) (refl, tt)) s
 
-word_in : (w : List ℕ) → Word w → All Admitted w
+word_in : (w : List ℕ) → Word w → AllByRecursion Admitted w
 word_in w h = All-weaker Letter Admitted letter_in w h.1
 
-rest_in : (fs : List Field) → All GoodField fs → All Admitted (rest fs)
+rest_in : (fs : List Field) → AllByRecursion GoodField fs → AllByRecursion Admitted (rest fs)
 rest_in [] g = (refl, tt)
 rest_in (f ∷ fs) g =
-    let tail : All Admitted (41 ∷ rest fs) = (refl, rest_in fs g.1) in
-    let ds : All Admitted (f.digits ++ (41 ∷ rest fs)) = All-append Admitted f.digits (41 ∷ rest fs) (All-weaker Digit Admitted digit_in f.digits g.0.counted.1) tail in
-    let number : All Admitted (f.sign ++ (f.digits ++ (41 ∷ rest fs))) = All-append Admitted f.sign (f.digits ++ (41 ∷ rest fs)) (sign_in f.sign g.0.signed) ds in
+    let tail : AllByRecursion Admitted (41 ∷ rest fs) = (refl, rest_in fs g.1) in
+    let ds : AllByRecursion Admitted (f.digits ++ (41 ∷ rest fs)) = All-append Admitted f.digits (41 ∷ rest fs) (All-weaker Digit Admitted digit_in f.digits g.0.counted.1) tail in
+    let number : AllByRecursion Admitted (f.sign ++ (f.digits ++ (41 ∷ rest fs))) = All-append Admitted f.sign (f.digits ++ (41 ∷ rest fs)) (sign_in f.sign g.0.signed) ds in
     (refl, (refl, All-append Admitted f.name (32 ∷ (f.sign ++ (f.digits ++ (41 ∷ rest fs)))) (word_in f.name g.0.named) (refl, number)))
 
-text_in : (line head : List ℕ) (fields : List Field) → IsForm line head fields → All Admitted line
+text_in : (line head : List ℕ) (fields : List Field) → IsForm line head fields → AllByRecursion Admitted line
 text_in line head fields h =
-    subst (All Admitted) (sym h.2) (refl, All-append Admitted head (rest fields) (word_in head h.0) (rest_in fields h.1))
+    subst (AllByRecursion Admitted) (sym h.2) (refl, All-append Admitted head (rest fields) (word_in head h.0) (rest_in fields h.1))
 
 pub clean : (line head : List ℕ) (fields : List Field) → IsForm line head fields → Clean line
 clean line head fields h k l = All-get_or Admitted line k 0 l (text_in line head fields h)
@@ -198,12 +198,12 @@ fits ns head fs col e m =
     (λ x. x.1 e)
     m
 
-later : (before : List Field) (f : Field) (after : List Field) → All Sound (before ++ (f ∷ after)) → Sound f
+later : (before : List Field) (f : Field) (after : List Field) → AllByRecursion Sound (before ++ (f ∷ after)) → Sound f
 later [] f after a = a.0
 later (b ∷ before) f after a = later before f after a.1
 
-pub all_fit : (head : List ℕ) (fs : List Field) (col : ℕ) → All Sound fs → FirstUnsound head fs col → ⊥
-all_fit head fs col a x = x.5 (later x.0 x.1 x.2 (subst (All Sound) x.3 a))
+pub all_fit : (head : List ℕ) (fs : List Field) (col : ℕ) → AllByRecursion Sound fs → FirstUnsound head fs col → ⊥
+all_fit head fs col a x = x.5 (later x.0 x.1 x.2 (subst (AllByRecursion Sound) x.3 a))
 
 same : (f : Form) (line : List ℕ) (r : Result Form WordFault) → Short f → line ≡ form_text f → Reads line r → r ≡ Ok f
 same f line (Err (Bracket Long)) s e h = let l = not_long f s in let q = ap length e in absurd (omega arith)

@@ -1,11 +1,11 @@
 -- The walk over the names of fields, in the words of the layer.
-use Rattle.std.proofs.Common.{◌≡◌, ℕ, ◌+◌, ◌-◌, ◌<◌, ◌≤◌, Bool, true, false, cond, ◌⊎◌, List, [], ◌∷◌, ◌++◌, map, length, get_or, drop, Ok, Err, Result, sym, refl, ap, ◌∙◌, subst, inl, inr, ⊎_elim, arith, length-append}
+use Rattle.std.proofs.Common.{◌≡◌, ℕ, ◌+◌, ◌⊎◌, List, [], ◌∷◌, ◌++◌, length, get_or, drop, Ok, Err, Result, sym, refl, ap, ◌∙◌, inl, inr, ⊎_elim, arith, length-append}
 use Rattle.std.specs.Str.{bytes_eq}
 use Rattle.std.proofs.lemmas.Slice.Eq.{bytes_eq-Decides}
 use Rattle.std.proofs.lemmas.Bool.{cond-true, cond-false, cases_Bool, both_ways}
 use Rattle.brackets.specs.Grammar.{Field, rest, text}
 use Rattle.words.specs.Walk.{width, all_named}
-use Rattle.words.specs.Layer.{name_of, names_of, Starts, Wrong, Missing, Misfit}
+use Rattle.words.specs.Layer.{names_of, Starts, Misfit}
 
 pub length_rest : (f : Field) (fs : List Field) → length (rest (f ∷ fs)) ≡ width f + length (rest fs)
 length_rest f fs =

@@ -1,10 +1,9 @@
 -- The walk over the numbers of fields, in the words of the layer.
-use Rattle.std.proofs.Common.{◌≡◌, ℕ, ◌+◌, ◌-◌, ◌<◌, ◌≤◌, Bool, true, false, cond, eqb, ltb, ◌⊎◌, List, [], ◌∷◌, ◌++◌, map, length, get_or, drop, ℤ, pos, neg_ℤ, Some, None, Option, sym, refl, ap, ◌∙◌, subst, inl, inr, ⊎_elim, arith}
-use Rattle.std.specs.List.{AllByRecursion as All}
+use Rattle.std.proofs.Common.{◌≡◌, ℕ, ◌+◌, ◌<◌, ◌≤◌, true, false, eqb, ◌⊎◌, List, [], ◌∷◌, ◌++◌, map, length, get_or, drop, pos, neg_ℤ, Some, None, Option, sym, refl, ap, ◌∙◌, inl, inr, ⊎_elim, arith}
+use Rattle.std.specs.List.{AllByRecursion}
 use Rattle.std.proofs.lemmas.Bool.{cond-true, cond-false, cases_Bool, cases_order}
 use Rattle.std.proofs.lemmas.Bool.Decides.{nat_tests}
-use Rattle.brackets.specs.Bytes.{Digit}
-use Rattle.brackets.specs.Grammar.{Numeral, Field, GoodField, rest, text}
+use Rattle.brackets.specs.Grammar.{Numeral, Field, GoodField, rest}
 use Rattle.words.specs.Numbers.{decimal_value, with_sign, value, Sound}
 use Rattle.words.specs.Walk.{malformed, text_value, width, number_text, field_value, first_malformed}
 use Rattle.words.specs.Layer.{FirstUnsound}
@@ -73,14 +72,14 @@ unsound f g m s = unsound_text f.sign f.digits g.signed g.counted m s.few s.zero
 pub value_is : (f : Field) → GoodField f → field_value f ≡ value f
 value_is f g = value-text f.sign f.digits g.signed g.counted
 
-pub values_are : (fs : List Field) → All GoodField fs → map field_value fs ≡ map value fs
+pub values_are : (fs : List Field) → AllByRecursion GoodField fs → map field_value fs ≡ map value fs
 values_are [] g = refl
 values_are (f ∷ fs) g = let a = value_is f g.0 in let b = values_are fs g.1 in λ i. a i ∷ b i
 
 none_not_some : {X : Type 0} (c : ℕ) → ◌≡◌ {A = Option ℕ} None (Some c) → X
 none_not_some c e = let z : ◌≡◌ {A = ℕ} 0 1 = cc in absurd (omega arith)
 
-pub all_sound : (fs : List Field) (at : ℕ) → All GoodField fs → first_malformed fs at ≡ None → All Sound fs
+pub all_sound : (fs : List Field) (at : ℕ) → AllByRecursion GoodField fs → first_malformed fs at ≡ None → AllByRecursion Sound fs
 all_sound [] at g e = tt
 all_sound (f ∷ fs) at g e =
     ⊎_elim
@@ -90,9 +89,9 @@ all_sound (f ∷ fs) at g e =
 
 -- the same fault for fields that lie from place `at` on
 abbrev UnsoundAt : List Field → ℕ → ℕ → Type 0
-UnsoundAt fs at col = (before : List Field) × (f : Field) × (later : List Field) × (fs ≡ before ++ (f ∷ later)) × All Sound before × (Sound f → ⊥) × (col ≡ at + length (rest before) + length f.name + 3)
+UnsoundAt fs at col = (before : List Field) × (f : Field) × (later : List Field) × (fs ≡ before ++ (f ∷ later)) × AllByRecursion Sound before × (Sound f → ⊥) × (col ≡ at + length (rest before) + length f.name + 3)
 
-unsound_at : (fs : List Field) (at col : ℕ) → All GoodField fs → first_malformed fs at ≡ Some col → UnsoundAt fs at col
+unsound_at : (fs : List Field) (at col : ℕ) → AllByRecursion GoodField fs → first_malformed fs at ≡ Some col → UnsoundAt fs at col
 unsound_at [] at col g e = none_not_some col e
 unsound_at (f ∷ fs) at col g e =
     ⊎_elim
@@ -107,7 +106,7 @@ unsound_at (f ∷ fs) at col g e =
     (cases_Bool (malformed (number_text f)))
 
 -- the fault of a form whose fields begin after its head
-pub first_unsound : (head : List ℕ) (fs : List Field) (col : ℕ) → All GoodField fs → first_malformed fs (1 + length head) ≡ Some col → FirstUnsound head fs col
+pub first_unsound : (head : List ℕ) (fs : List Field) (col : ℕ) → AllByRecursion GoodField fs → first_malformed fs (1 + length head) ≡ Some col → FirstUnsound head fs col
 first_unsound head fs col g e =
     let x = unsound_at fs (1 + length head) col g e in
     let l = length-text head x.0 in

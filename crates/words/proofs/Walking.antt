@@ -1,13 +1,10 @@
 -- From field to field.
-use Rattle.std.proofs.Common.{◌≡◌, ℕ, ◌+◌, ◌-◌, ◌<◌, ◌≤◌, Bool, true, false, cond, List, [], ◌∷◌, ◌++◌, length, get_or, take, drop, Ok, Err, Decides, Result, sym, refl, ap, ◌∙◌, subst, ⊎_elim, add-zero, arith, length-drop, MutBor}
-use Rattle.std.specs.List.{AllByRecursion as All}
+use Rattle.std.proofs.Common.{◌≡◌, ℕ, ◌+◌, ◌-◌, ◌<◌, ◌≤◌, Bool, true, false, List, [], ◌∷◌, length, get_or, drop, Ok, Err, sym, refl, ap, ◌∙◌, subst, ⊎_elim, add-zero, arith, length-drop, Bor}
 use Rattle.std.specs.Str.{bytes_eq}
 use Rattle.std.proofs.lemmas.Slice.Eq.{bytes_eq-Decides}
 use Rattle.std.proofs.lemmas.List.{get_or-drop, drop_more, drop_all}
 use Rattle.std.proofs.lemmas.Bool.{cond-true, cond-false, cases_Bool}
-use Rattle.std.proofs.lemmas.Bool.Decides.{same_from_decides, not_from_Decides}
-use Rattle.brackets.specs.Grammar.{Field, GoodField, rest}
-use Rattle.words.specs.declared.reading.Token.{Token}
+use Rattle.brackets.specs.Grammar.{Field, rest}
 use Rattle.words.specs.declared.reading.Token.TheVariants.{Word, Number}
 use Rattle.words.specs.declared.reading.Tokens.{Tokens}
 use Rattle.words.specs.Walk.{FieldAt, Took, IsWord, width}
@@ -35,7 +32,7 @@ at_field line at (f ∷ fs) e h = (f, fs, (h.0.0, h.1))
 abbrev Reads : List ℕ → ℕ → Tokens → Type 0
 Reads line at p = (f : Field) (gs : List Field) → FieldAt line at f gs → Took at f p
 
-pub hit : (line : List ℕ) (at : ℕ) (name : List ℕ) (p : Tokens) (s : MutBor (List ℕ)) (col : ℕ) (fs : List Field) → (get_or line at 0 ≡ 41 → ⊥) → Reads line at p → p.name ≡ Word s col → s.now ≡ name → FieldsAt line at fs → Ok p.next ≡ one_named name fs at
+pub hit : (line : List ℕ) (at : ℕ) (name : List ℕ) (p : Tokens) (s : Bor (List ℕ)) (col : ℕ) (fs : List Field) → (get_or line at 0 ≡ 41 → ⊥) → Reads line at p → p.name ≡ Word s col → s.now ≡ name → FieldsAt line at fs → Ok p.next ≡ one_named name fs at
 hit line at name p s col [] bar took is same h = absurd (bar (first line at [] h))
 hit line at name p s col (f ∷ gs) bar took is same h =
     let t = took f gs (h.0.0, h.1) in
@@ -46,7 +43,7 @@ not_so : (b : Bool) → (b ≡ true → ⊥) → b ≡ false
 not_so true h = absurd (h refl)
 not_so false h = refl
 
-pub miss : (line : List ℕ) (at : ℕ) (name : List ℕ) (p : Tokens) (s : MutBor (List ℕ)) (col : ℕ) (fs : List Field) → (get_or line at 0 ≡ 41 → ⊥) → Reads line at p → p.name ≡ Word s col → (s.now ≡ name → ⊥) → FieldsAt line at fs → Err (col - 1) ≡ one_named name fs at
+pub miss : (line : List ℕ) (at : ℕ) (name : List ℕ) (p : Tokens) (s : Bor (List ℕ)) (col : ℕ) (fs : List Field) → (get_or line at 0 ≡ 41 → ⊥) → Reads line at p → p.name ≡ Word s col → (s.now ≡ name → ⊥) → FieldsAt line at fs → Err (col - 1) ≡ one_named name fs at
 miss line at name p s col [] bar took is other h = absurd (bar (first line at [] h))
 miss line at name p s col (f ∷ gs) bar took is other h =
     let t = took f gs (h.0.0, h.1) in
@@ -55,12 +52,12 @@ miss line at name p s col (f ∷ gs) bar took is other h =
     ap Err b ∙ sym (cond-false (bytes_eq f.name name) (Ok (at + width f)) (Err (at + 2)) (not_so (bytes_eq f.name name) (λ e. other (w.0 ∙ (bytes_eq-Decides f.name name).0 e))))
 
 -- a name's column, past the bracket before it
-pub name_column : (line : List ℕ) (at : ℕ) (p : Tokens) (s : MutBor (List ℕ)) (col : ℕ) (f : Field) (fs : List Field) → Reads line at p → p.name ≡ Word s col → FieldAt line at f fs → 1 ≤ col
+pub name_column : (line : List ℕ) (at : ℕ) (p : Tokens) (s : Bor (List ℕ)) (col : ℕ) (f : Field) (fs : List Field) → Reads line at p → p.name ≡ Word s col → FieldAt line at f fs → 1 ≤ col
 name_column line at p s col f fs took is h =
     let w : IsWord (Word s col) f.name (at + 3) = subst (λ x. IsWord x f.name (at + 3)) is (took f fs h).name in
     omega (arith, w.1)
 
-pub never : {X : Type 0} (line : List ℕ) (at : ℕ) (p : Tokens) (s : MutBor (List ℕ)) (col : ℕ) (fs : List Field) → (get_or line at 0 ≡ 41 → ⊥) → Reads line at p → p.name ≡ Number s col → FieldsAt line at fs → X
+pub never : {X : Type 0} (line : List ℕ) (at : ℕ) (p : Tokens) (s : Bor (List ℕ)) (col : ℕ) (fs : List Field) → (get_or line at 0 ≡ 41 → ⊥) → Reads line at p → p.name ≡ Number s col → FieldsAt line at fs → X
 never line at p s col [] bar took is h = absurd (bar (first line at [] h))
 never line at p s col (f ∷ gs) bar took is h =
     let t = took f gs (h.0.0, h.1) in

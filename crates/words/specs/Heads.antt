@@ -2,8 +2,8 @@
 --
 --   head_text k     the head
 --   field_names k   the names
---   Unknown head   no form has this head
-use Rattle.std.specs.Prelude.{◌≡◌, ℕ, List, [], ◌∷◌, codes, ◌≢◌}
+--   Unknown head    no form has this head
+use Rattle.std.specs.Prelude.{ℕ, List, [], ◌∷◌, codes, ◌≢◌}
 use Rattle.words.specs.declared.reading.Kind.{Kind}
 use Rattle.words.specs.declared.reading.Kind.TheVariants.{Book, Deposit, Withdraw, Register, Market, Close, Regulate, Meter, Evaluate, Show}
 

@@ -1,8 +1,8 @@
 -- The numbers of a form's fields. Assumes nothing.
 --
 --   decimal_value ds   the number that decimal digits write
---   value f           the number of a field, with its sign
---   Sound f           it is written as it may be: no leading zero, no minus zero, at most 18 digits
+--   value f            the number of a field, with its sign
+--   Sound f            it is written as it may be: no leading zero, no minus zero, at most 18 digits
 use Rattle.std.specs.Prelude.{◌≡◌, ℕ, ◌+◌, ◌-◌, ◌*◌, ◌^◌, ◌≤◌, List, [], ◌∷◌, length, ℤ, pos, neg_ℤ, slice_index_or}
 use Rattle.brackets.specs.Grammar.{Field}
 

@@ -1,8 +1,8 @@
 -- The layer, the number and the place of each fault of layers 1 and 2. Assumes nothing.
 --
---   told f       of a word fault
+--   told f        of a word fault
 --   of_bracket f  of a bracket fault, which a word fault carries whole
-use Rattle.std.specs.Prelude.{ℤ, pos}
+use Rattle.std.specs.Prelude.{pos}
 use Rattle.brackets.specs.declared.BracketFault.{BracketFault}
 use Rattle.brackets.specs.declared.BracketFault.TheVariants.{Long, Byte, Shape}
 use Rattle.words.specs.declared.faults.Told.{Told}

@@ -1,4 +1,4 @@
-use Rattle.std.proofs.Common.{◌≡◌, ℕ, ◌<◌, get_or}
+use Rattle.std.proofs.Common.{ℕ, ◌<◌, get_or}
 use Rattle.brackets.specs.Bytes.{Admitted}
 use Rattle.brackets.proofs.first_unadmitted.Given as goal
 

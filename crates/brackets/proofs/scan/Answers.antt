@@ -1,5 +1,7 @@
 use Rattle.std.proofs.Common.{◌≡◌, ℕ, ◌≤◌, List, length, take, Some, sym, ap, ◌∙◌, arith, rules}
 use Rattle.std.proofs.lemmas.List.{take_all}
+use denote.Enum.Bare.{same_true, same_false}
+use Rattle.brackets.specs.contracts.State.{the_type}
 use Rattle.brackets.specs.declared.State.{State}
 use Rattle.brackets.specs.declared.State.TheVariants.{Start}
 use Rattle.brackets.specs.Grammar.{Stuck, Only}
@@ -27,9 +29,9 @@ whole line i s h on = sym (ap (run (Some Start)) (take_all i line h)) ∙ on
 
 pub returns-then-eq : goal.returns-then-eq
 returns-then-eq c =
-    form c.args.line.now c.loop-i.s (whole c.args.line.now c.loop-i.i c.loop-i.s c.loop-i-test.false c.loop-i.invariant) c.if-eq.ensures
+    form c.args.line.now c.loop-i.s (whole c.args.line.now c.loop-i.i c.loop-i.s c.loop-i-test.false c.loop-i.invariant) (same_true the_type (search rules) _ _ (sym c.if-eq.ensures))
 
 pub returns-else-eq : goal.returns-else-eq
 returns-else-eq c =
     once c.args.line.now _
-    (stuck_past c.args.line.now c.loop-i.s (whole c.args.line.now c.loop-i.i c.loop-i.s c.loop-i-test.false c.loop-i.invariant) c.if-eq.ensures)
+    (stuck_past c.args.line.now c.loop-i.s (whole c.args.line.now c.loop-i.i c.loop-i.s c.loop-i-test.false c.loop-i.invariant) (same_false the_type _ _ (sym c.if-eq.ensures)))

@@ -1,6 +1,6 @@
-use Rattle.std.proofs.Common.{◌≡◌, ℕ, ◌+◌, ◌-◌, ◌<◌, ◌≤◌, List, ◌∷◌, ◌++◌, length, drop, sym, refl, ap, ◌∙◌, arith, rules}
+use Rattle.std.proofs.Common.{◌≡◌, ℕ, ◌+◌, List, ◌∷◌, ◌++◌, length, drop, refl, ap, ◌∙◌, arith, rules}
 use Rattle.brackets.specs.Grammar.{Field, rest}
-use Rattle.words.specs.Walk.{EndsAt, FieldAt, Took, width}
+use Rattle.words.specs.Walk.{EndsAt, FieldAt}
 use Rattle.words.proofs.Cutting.{ends_is, name-inner, number-inner, name_cut, number_cut, part_is, room}
 use Rattle.words.proofs.reading.field.Goals as goal
 
@@ -17,25 +17,25 @@ end_is : (line : List ℕ) (at g r : ℕ) (f : Field) (fs : List Field) → g �
 end_is line at g r f fs e x h =
     ends_is line (g + 1) r (f.sign ++ f.digits) 41 (rest fs) x (number_at line at g f fs e h) (number-inner f h.0) refl
 
-pub overflow-add-at : goal.overflow-add-at
-overflow-add-at c = let r = room c.args.line.now c.args.at c.requires.some.0 c.requires.some.1 c.requires.some.2 in search rules
+pub overflow_add-at : goal.overflow_add-at
+overflow_add-at c = let r = room c.args.line.now c.args.at c.requires.some.0 c.requires.some.1 c.requires.some.2 in search rules
 
-pub word-end-gap-requires : goal.word-end-gap-requires
-word-end-gap-requires c =
+pub word_end-gap-requires : goal.word_end-gap-requires
+word_end-gap-requires c =
     let r = room c.args.line.now c.args.at c.requires.some.0 c.requires.some.1 c.requires.some.2 in omega arith
 
-pub word-end-end-requires : goal.word-end-end-requires
-word-end-end-requires c =
+pub word_end-end-requires : goal.word_end-end-requires
+word_end-end-requires c =
     let r = room c.args.line.now c.args.at c.requires.some.0 c.requires.some.1 c.requires.some.2 in
-    let g = gap_is c.args.line.now c.args.at c.word-end-gap.result c.requires.some.0 c.requires.some.1 c.word-end-gap.ensures c.requires.some.2 in
+    let g = gap_is c.args.line.now c.args.at c.word_end-gap.result c.requires.some.0 c.requires.some.1 c.word_end-gap.ensures c.requires.some.2 in
     omega arith
 
 pub returns : goal.returns
 returns c f fs h =
-    let g = gap_is c.args.line.now c.args.at c.word-end-gap.result f fs c.word-end-gap.ensures h in
-    let e = end_is c.args.line.now c.args.at c.word-end-gap.result c.word-end-end.result f fs g c.word-end-end.ensures h in
+    let g = gap_is c.args.line.now c.args.at c.word_end-gap.result f fs c.word_end-gap.ensures h in
+    let e = end_is c.args.line.now c.args.at c.word_end-gap.result c.word_end-end.result f fs g c.word_end-end.ensures h in
     record {
-      name = (part_is c.args.line.now (c.args.at + 2) c.word-end-gap.result f.name _ (name_cut c.args.line.now c.args.at f fs h) g, refl);
-      number = (part_is c.args.line.now (c.word-end-gap.result + 1) c.word-end-end.result (f.sign ++ f.digits) _ (number_at c.args.line.now c.args.at c.word-end-gap.result f fs g h) e, omega arith);
+      name = (part_is c.args.line.now (c.args.at + 2) c.word_end-gap.result f.name _ (name_cut c.args.line.now c.args.at f fs h) g, refl);
+      number = (part_is c.args.line.now (c.word_end-gap.result + 1) c.word_end-end.result (f.sign ++ f.digits) _ (number_at c.args.line.now c.args.at c.word_end-gap.result f fs g h) e, omega arith);
       next = omega arith;
     }

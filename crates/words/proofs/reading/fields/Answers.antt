@@ -1,4 +1,4 @@
-use Rattle.std.proofs.Common.{◌≡◌, ℕ, ◌+◌, List, map, length, take, Some, None, Ok, Err, Result, sym, refl, ap, ◌∙◌, arith}
+use Rattle.std.proofs.Common.{◌≡◌, ℕ, List, length, take, Ok, Err, Result, sym, ap, ◌∙◌, arith}
 use Rattle.brackets.specs.Grammar.{Field}
 use Rattle.words.specs.declared.faults.WordFault.TheVariants.{Field as Misnamed, Number as Malformed}
 use Rattle.words.specs.Heads.{head_text, field_names}
@@ -31,20 +31,20 @@ values-requires c =
     record {
       short = b.0;
       few = omega (arith, few_names c.args.kind);
-      some = (b.2.1, f, as_many b.2.1 _ (all_right _ b.2.1 _ _ (c.in-default.ensures b.2.1 f)) ∙ ap length c.names-expected.ensures ∙ sym n);
+      some = (b.2.1, f, as_many b.2.1 _ (all_right _ b.2.1 _ _ (c.in_default.ensures b.2.1 f)) ∙ ap length c.names-expected.ensures ∙ sym n);
     }
 
 pub returns-in-Ok : goal.returns-in-Ok
-returns-in-Ok c = answers c.args.line.now (Ok c.form-of.result) (
+returns-in-Ok c = answers c.args.line.now (Ok c.form_of.result) (
   c.requires.shaped,
   λ head fields h.
       let p = c.requires.headed head fields h in
       let f = fields_at c.args.line.now head fields c.args.start h p.1 in
       let n = count_is c.names-expected.result.now (field_names c.args.kind) c.names-expected.ensures in
-      let right : names_of fields ≡ field_names c.args.kind = all_right _ fields _ _ (c.in-default.ensures fields f) ∙ c.names-expected.ensures in
+      let right : names_of fields ≡ field_names c.args.kind = all_right _ fields _ _ (c.in_default.ensures fields f) ∙ c.names-expected.ensures in
       let l = as_many fields (field_names c.args.kind) right ∙ sym n in
       let v = c.in-Ok.ensures fields f l in
-      (p.0 ∙ ap head_text (sym c.form-of.ensures.kind), right ∙ ap field_names (sym c.form-of.ensures.kind), all_sound fields c.args.start h.1 v.0, sym (values_are fields h.1) ∙ sym v.1 ∙ ap (λ m. take m c.in-Ok.vs) n ∙ sym c.form-of.ensures.numbers),
+      (p.0 ∙ ap head_text (sym c.form_of.ensures.kind), right ∙ ap field_names (sym c.form_of.ensures.kind), all_sound fields c.args.start h.1 v.0, sym (values_are fields h.1) ∙ sym v.1 ∙ ap (λ m. take m c.in-Ok.vs) n ∙ sym c.form_of.ensures.numbers),
 )
 
 pub returns-in-Err-values : goal.returns-in-Err-values
@@ -54,7 +54,7 @@ returns-in-Err-values c = answers c.args.line.now (Err (Malformed c.in-Err-value
       let p = c.requires.headed head fields h in
       let f = fields_at c.args.line.now head fields c.args.start h p.1 in
       let n = count_is c.names-expected.result.now (field_names c.args.kind) c.names-expected.ensures in
-      let right : names_of fields ≡ field_names c.args.kind = all_right _ fields _ _ (c.in-default.ensures fields f) ∙ c.names-expected.ensures in
+      let right : names_of fields ≡ field_names c.args.kind = all_right _ fields _ _ (c.in_default.ensures fields f) ∙ c.names-expected.ensures in
       let l = as_many fields (field_names c.args.kind) right ∙ sym n in
       (c.args.kind, p.0, right, first_unsound head fields c.in-Err-values.column h.1 (ap (first_malformed fields) (sym p.1) ∙ c.in-Err-values.ensures fields f l)),
 )

@@ -1,4 +1,4 @@
-use Rattle.std.proofs.Common.{refl, arith, rules}
+use Rattle.std.proofs.Common.{refl, rules}
 use Rattle.std.proofs.lemmas.Bool.{false≢true}
 use Rattle.words.proofs.Walking.{inside, at_last, at_field, hit, miss, name_column, never}
 use Rattle.words.proofs.reading.named.Goals as goal
@@ -6,8 +6,8 @@ use Rattle.words.proofs.reading.named.Goals as goal
 pub bounds-line-at : goal.bounds-line-at
 bounds-line-at c = inside c.args.line.now c.args.at c.requires.some.0 c.requires.some.1
 
-pub overflow-add-result : goal.overflow-add-result
-overflow-add-result c = let i = inside c.args.line.now c.args.at c.requires.some.0 c.requires.some.1 in search rules
+pub overflow_add-result : goal.overflow_add-result
+overflow_add-result c = let i = inside c.args.line.now c.args.at c.requires.some.0 c.requires.some.1 in search rules
 
 pub returns-then-line-at-eq41 : goal.returns-then-line-at-eq41
 returns-then-line-at-eq41 c fs h = at_last c.args.line.now c.args.at c.args.name.now fs c.if-line-at-eq41.true h
@@ -28,10 +28,10 @@ pub returns-in-Number : goal.returns-in-Number
 returns-in-Number c fs h =
     never c.args.line.now c.args.at c.field-tokens.result _ _ fs c.if-line-at-eq41.false c.field-tokens.ensures c.in-Number.is h
 
-pub overflow-cast-result : goal.overflow-cast-result
-overflow-cast-result c = let i = inside c.args.line.now c.args.at c.requires.some.0 c.requires.some.1 in search rules
+pub overflow_cast-result : goal.overflow_cast-result
+overflow_cast-result c = let i = inside c.args.line.now c.args.at c.requires.some.0 c.requires.some.1 in search rules
 
-pub overflow-sub-result : goal.overflow-sub-result
-overflow-sub-result c =
+pub overflow_sub-result : goal.overflow_sub-result
+overflow_sub-result c =
     let f = at_field c.args.line.now c.args.at c.requires.some.0 c.if-line-at-eq41.false c.requires.some.1 in
     name_column c.args.line.now c.args.at c.field-tokens.result _ _ f.0 f.1 c.field-tokens.ensures c.in-Word.is f.2

@@ -1,4 +1,4 @@
-use Rattle.std.proofs.Common.{pos, codes, rules}
+use Rattle.std.proofs.Common.{codes, rules}
 use Rattle.answers.specs.Texts.{field_text}
 use Rattle.answers.specs.Writing.{Adds}
 use Rattle.answers.proofs.Laying.{adds_adds}
