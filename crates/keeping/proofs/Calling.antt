@@ -1,5 +1,5 @@
 -- An answer that is written is what the line call owes. Assumes nothing.
-use Rattle.std.proofs.Common.{◌≡◌, ℕ, ◌<◌, List, length, ℤ, Some, None, Option, refl, arith}
+use Rattle.std.proofs.Common.{ℕ, ◌<◌, List, length, ℤ, Some, None, Option, refl, arith}
 use Rattle.answers.specs.declared.Answer.{Answer}
 use Rattle.answers.specs.Texts.{answer_text}
 use Rattle.answers.specs.Writing.{Answerable, Writes}

@@ -1,5 +1,5 @@
 -- A line is answered by its first 201 bytes as by the whole of it. Assumes nothing.
-use Rattle.std.proofs.Common.{◌≡◌, ℕ, ◌<◌, ◌≤◌, List, [], length, take, ℤ, Ok, Err, Result, sym, subst, ⊎_elim, arith}
+use Rattle.std.proofs.Common.{ℕ, ◌<◌, List, length, take, ℤ, Ok, Err, Result, subst, ⊎_elim, arith}
 use Rattle.std.proofs.lemmas.List.{take_all, length-take-le}
 use Rattle.std.proofs.lemmas.Bool.{cases_lt}
 use Rattle.brackets.specs.declared.BracketFault.TheVariants.{Long, Byte, Shape}

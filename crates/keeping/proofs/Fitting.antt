@@ -1,5 +1,5 @@
 -- What `book` opens fits a book and the pages. Assumes nothing.
-use Rattle.std.proofs.Common.{◌≡◌, ℕ, Bool, true, false, cond, ◌&&◌, ℤ, Ok, Err, Result}
+use Rattle.std.proofs.Common.{◌≡◌, ℕ, true, ◌&&◌, ℤ, Ok, Err, Result}
 use Rattle.std.proofs.lemmas.Bool.{and_parts, cond_both}
 use Rattle.entries.specs.declared.entry.Sizes.{Sizes}
 use Rattle.entries.specs.declared.refusal.Refusal.{Refusal as BookRefusal}

@@ -1,7 +1,7 @@
 -- The bytes that are kept of a line: its first 201. Assumes nothing.
-use Rattle.std.proofs.Common.{◌≡◌, ℕ, ◌+◌, ◌<◌, ◌≤◌, min, List, [], ◌∷◌, ◌++◌, length, take, set, sym, refl, ap, ◌∙◌, ⊎_elim, arith, length-append}
+use Rattle.std.proofs.Common.{◌≡◌, ℕ, ◌+◌, ◌<◌, ◌≤◌, min, List, [], ◌∷◌, ◌++◌, length, take, set, sym, ap, ◌∙◌, ⊎_elim, arith, length-append}
 use lib.Seq.{take-append-le}
-use Rattle.std.proofs.lemmas.List.{take_more_set, take_all, take_at, length-take, length-take-le}
+use Rattle.std.proofs.lemmas.List.{take_more_set, take_all, take_at, length-take-le}
 use Rattle.std.proofs.lemmas.Bool.{cases_lt}
 
 -- one byte more at the first free place

@@ -8,7 +8,7 @@
 --   Filled d n e                  n bytes were written at the start of the buffer d, which became e
 --   Takes i d byte r j e          what the call for the next byte does, with the buffer d
 --   Finishes i d r j e            what the call at the end of the input does
-use Rattle.std.specs.Prelude.{◌≡◌, ℕ, ◌+◌, ◌<◌, ◌≤◌, min, List, [], ◌∷◌, ◌++◌, length, take, ℤ, pos, Some, None, Option, ◌≢◌}
+use Rattle.std.specs.Prelude.{◌≡◌, ℕ, ◌+◌, ◌<◌, ◌≤◌, min, List, [], ◌∷◌, ◌++◌, length, take, pos, Some, None, Option, ◌≢◌}
 use Rattle.std.specs.List.{AllByRecursion as All}
 use Rattle.answers.specs.Writing.{laid}
 use Rattle.keeping.specs.declared.input.Line.{Line}

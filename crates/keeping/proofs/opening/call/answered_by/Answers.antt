@@ -1,4 +1,4 @@
-use Rattle.std.proofs.Common.{◌≡◌, ℤ, sym, refl, ap, w64, to_z, of_z, rules}
+use Rattle.std.proofs.Common.{◌≡◌, sym, refl, ap, w64, to_z, of_z, rules}
 use Rattle.book.specs.Held.{held}
 use Rattle.keeping.specs.Entered.{book_after}
 use Rattle.keeping.specs.View.{rules_of}
