@@ -9,7 +9,7 @@
 --   Takes i d byte r j e          what the call for the next byte does, with the buffer d
 --   Finishes i d r j e            what the call at the end of the input does
 use Rattle.std.specs.Prelude.{◌≡◌, ℕ, ◌+◌, ◌<◌, ◌≤◌, min, List, [], ◌∷◌, ◌++◌, length, take, pos, Some, None, Option, ◌≢◌}
-use Rattle.std.specs.List.{AllByRecursion as All}
+use Rattle.std.specs.List.{AllByRecursion}
 use Rattle.answers.specs.Writing.{laid}
 use Rattle.keeping.specs.declared.input.Line.{Line}
 use Rattle.keeping.specs.declared.input.Input.{Input}
@@ -19,7 +19,7 @@ use Rattle.keeping.specs.Answered.{LineText}
 
 -- no byte 10
 abbrev pub Unbroken : List ℕ → Type 0
-Unbroken line = All (λ b. b ≢ 10) line
+Unbroken line = AllByRecursion (λ b. b ≢ 10) line
 
 -- each line and the byte 10 that ends it
 abbrev pub ended : List (List ℕ) → List ℕ
@@ -27,7 +27,7 @@ ended [] = []
 ended (line ∷ lines) = line ++ (10 ∷ ended lines)
 
 pub record Divided (input : List ℕ) (lines : List (List ℕ)) (rest : List ℕ) : Type 0 where
-  pub unbroken : All Unbroken lines
+  pub unbroken : AllByRecursion Unbroken lines
   pub going : Unbroken rest
   pub whole : input ≡ ended lines ++ rest
 
