@@ -18,7 +18,6 @@ impl SheetRefusal {
     {
         match self {
             SheetRefusal::Parties => 11,
-            SheetRefusal::Day { day: _ } => 2,
             SheetRefusal::Hour { hour: _ } => 3,
             SheetRefusal::Reading { hour: _, party: _ } => 10,
         }
@@ -29,7 +28,6 @@ impl SheetRefusal {
     {
         match self {
             SheetRefusal::Parties => 0,
-            SheetRefusal::Day { day } => *day,
             SheetRefusal::Hour { hour } => *hour,
             SheetRefusal::Reading { hour, party } => i64::from(*hour) * 100 + i64::from(*party),
         }

@@ -11,7 +11,6 @@ pub struct Row {
 #[derive(Clone, Copy)]
 pub enum SheetRefusal {
     Parties,
-    Day { day: i64 },
     Hour { hour: i64 },
     Reading { hour: u8, party: u8 },
 }
