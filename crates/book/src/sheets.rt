@@ -5,16 +5,16 @@ ghost use Rattle.hourly.specs.Records.{record_read};
 ghost use Rattle.sheet.specs.Gathering.{facts, gather_refusal, rows_gathered};
 ghost use Rattle.sheet.specs.Sheets.{hour_facts};
 ghost use Rattle.book.specs.Standing.{index, terms};
-ghost use Rattle.book.specs.HourSheets.{Gathers, hour_cells, listed, unknown_hour};
+ghost use Rattle.book.specs.HourSheets.{hour_gather_refusal, gathered_facts, hour_cells, listed, unknown_hour};
 ghost use Rattle.book.specs.Held.{Fits, fits, held, standing_on};
 
 use crate::book::Book;
 use crate::{hour_at, index, row_at};
-use entries::refusal::Refusal;
 use hourly::plain::{PlainCell, PlainRecord};
 use pricing::Pricing;
 use sharing::Sharing;
 use sheet::gathered::Gathered;
+use sheet::row::SheetRefusal;
 
 // The first cells of some.
 fn first_cells(cells: &[PlainCell], count: usize) -> &[PlainCell]
@@ -71,35 +71,37 @@ impl<P: Pricing, S: Sharing> Book<'_, P, S> {
     }
 
     // The refusal of a day or an hour that the book does not have.
-    fn unknown_hour(&self, day: i64, hour: i64) -> Option<Refusal>
+    fn unknown_hour(&self, day: i64, hour: i64) -> Option<SheetRefusal>
         ensures value { result ≡ unknown_hour (terms self.now.sizes (P.Pricing.map self.now.pricing) (S.Sharing.map self.now.sharing)) (held self.now) day hour }
         ensures passed { result ≡ None → Fits (held self.now) × (index day < self.now.sizes.days) × (index hour < 24) }
     {
         if !self.fits() {
-            return Some(Refusal::WrongSize);
+            return Some(SheetRefusal::Parties);
         }
         if day < 1 || day > self.sizes.days as i64 {
-            return Some(Refusal::UnknownDay { day });
+            return Some(SheetRefusal::Day { day });
         }
         if hour < 1 || hour > 24 {
-            return Some(Refusal::HourOrRange { from: hour });
+            return Some(SheetRefusal::Hour { hour });
         }
         None
     }
 
-    // The sheet of an hour, or the refusal of an hour that the book does not have.
-    fn sheet_of(&self, day: i64, hour: i64) -> Result<Gathered, Refusal>
-        ensures { Gathers (terms self.now.sizes (P.Pricing.map self.now.pricing) (S.Sharing.map self.now.sharing)) (held self.now) day hour result }
+    // The sheet of an hour, or one that met a refusal.
+    fn sheet_of(&self, day: i64, hour: i64) -> Gathered
+        ensures refusal { result.refusal ≡ hour_gather_refusal (terms self.now.sizes (P.Pricing.map self.now.pricing) (S.Sharing.map self.now.sharing)) (held self.now) day hour }
+        ensures facts { facts result ≡ gathered_facts (terms self.now.sizes (P.Pricing.map self.now.pricing) (S.Sharing.map self.now.sharing)) (held self.now) day hour }
     {
         match self.unknown_hour(day, hour) {
-            Some(refusal) => Err(refusal),
-            None => Ok(self.gather_hour(day, hour)),
+            Some(refusal) => Gathered::refused(refusal),
+            None => self.gather_hour(day, hour),
         }
     }
 
     // The sheet of an hour, gathered in whatever state its day is; it alters nothing.
-    pub fn gather(&self, day: i64, hour: i64) -> Result<Gathered, Refusal>
-        ensures { Gathers (terms self.now.sizes (P.Pricing.map self.now.pricing) (S.Sharing.map self.now.sharing)) (held self.now) day hour result }
+    pub fn gather(&self, day: i64, hour: i64) -> Gathered
+        ensures refusal { result.refusal ≡ hour_gather_refusal (terms self.now.sizes (P.Pricing.map self.now.pricing) (S.Sharing.map self.now.sharing)) (held self.now) day hour }
+        ensures facts { facts result ≡ gathered_facts (terms self.now.sizes (P.Pricing.map self.now.pricing) (S.Sharing.map self.now.sharing)) (held self.now) day hour }
     {
         self.sheet_of(day, hour)
     }

@@ -5,7 +5,7 @@ use Rattle.hourly.specs.Cells.{CellFigures}
 use Rattle.hourly.specs.Records.{no_deliveries, record_figures}
 use Rattle.sheet.specs.declared.row.Row.{Row}
 use Rattle.sheet.specs.declared.row.SheetRefusal.{SheetRefusal}
-use Rattle.sheet.specs.declared.row.SheetRefusal.TheVariants.{Parties, Hour, Reading}
+use Rattle.sheet.specs.declared.row.SheetRefusal.TheVariants.{Parties, Day, Hour, Reading}
 use Rattle.sheet.specs.declared.gathered.Gathered.{Gathered}
 use Rattle.sheet.specs.Bounds.{zero_row}
 use Rattle.sheet.specs.Evaluation.{HourFacts}
@@ -17,6 +17,7 @@ pub record Told : Type 0 where
 
 abbrev pub told : SheetRefusal → Told
 told Parties = record { number = 11; place = pos 0 }
+told (Day day) = record { number = 2; place = day }
 told (Hour hour) = record { number = 3; place = hour }
 told (Reading hour party) = record { number = 10; place = pos (hour * 100 + party) }
 

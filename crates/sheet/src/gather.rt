@@ -18,6 +18,7 @@ impl SheetRefusal {
     {
         match self {
             SheetRefusal::Parties => 11,
+            SheetRefusal::Day { day: _ } => 2,
             SheetRefusal::Hour { hour: _ } => 3,
             SheetRefusal::Reading { hour: _, party: _ } => 10,
         }
@@ -28,6 +29,7 @@ impl SheetRefusal {
     {
         match self {
             SheetRefusal::Parties => 0,
+            SheetRefusal::Day { day } => *day,
             SheetRefusal::Hour { hour } => *hour,
             SheetRefusal::Reading { hour, party } => i64::from(*hour) * 100 + i64::from(*party),
         }

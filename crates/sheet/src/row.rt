@@ -11,6 +11,7 @@ pub struct Row {
 #[derive(Clone, Copy)]
 pub enum SheetRefusal {
     Parties,
+    Day { day: i64 },
     Hour { hour: i64 },
     Reading { hour: u8, party: u8 },
 }
