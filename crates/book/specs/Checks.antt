@@ -2,7 +2,7 @@
 --
 --   first f a n            the first of the n places from a on at which f holds
 --   checks m v e           the checks of the entry e
---   refusal_at m v e        the first that fails, if any
+--   refusal_at m v e       the first that fails, if any
 use Rattle.std.specs.Prelude.{ℕ, zero, suc, ◌+◌, Bool, true, cond, not, ◌&&◌, List, [], ◌∷◌, ◌++◌, map, ℤ, pos, ◌+ℤ◌, neg_ℤ, is_some, Some, None, Option, int_le}
 use Rattle.std.specs.Option.{unwrap_or}
 use Rattle.hourly.specs.Bounds.{within}

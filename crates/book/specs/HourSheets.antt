@@ -1,8 +1,8 @@
 -- The sheet of an hour of a book. Assumes nothing.
 --
---   hour_cells m v day hour       the cells of the hour, one for each party in order
---   hour_gather_refusal m h day hour   the refusal that gathering its sheet meets, if any
---   gathered_facts m h day hour   what the sheet knows
+--   hour_cells m v day hour           the cells of the hour, one for each party in order
+--   hour_gather_refusal m h day hour  the refusal that gathering its sheet meets, if any
+--   gathered_facts m h day hour       what the sheet knows
 use Rattle.std.specs.Prelude.{ℕ, zero, suc, cond, List, [], ◌∷◌, ◌++◌, ℤ, Some, None, Option}
 use Rattle.hourly.specs.Cells.{CellFigures}
 use Rattle.hourly.specs.Records.{HourFigures}

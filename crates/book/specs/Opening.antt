@@ -1,7 +1,7 @@
 -- The opening of a book. Assumes nothing.
 --
 --   sizes_of p d           p parties and d days
---   openable p d c r      a book of p parties and d days can be opened on pages of c cells and r records
+--   openable p d c r       a book of p parties and d days can be opened on pages of c cells and r records
 --   Opens cells records p d pricing sharing r
 --                         r comes of opening a book on these pages
 use Rattle.std.specs.Prelude.{◌≡◌, ℕ, Bool, true, false, ◌&&◌, List, length, ℤ, Ok, Err, Result, unsigned_abs}

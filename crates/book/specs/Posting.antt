@@ -4,11 +4,11 @@
 --   in_row ..           the cells of a range of hours of a party's row, each changed by f
 --   posted h e          what the book holds after the accepted entry e
 --   Room h e            the record of a delivery's hour has room for it
---   refusal_on m h e     the refusal of the entry, if any
+--   refusal_on m h e    the refusal of the entry, if any
 --   afterwards m h e    what the book holds after the entry, accepted or refused
---   reply_on m h e       what the book replies to the entry
+--   reply_on m h e      what the book replies to the entry
 --   opened s            what a newly opened book holds
---   statement_on m h p   the statement of a party, or its refusal
+--   statement_on m h p  the statement of a party, or its refusal
 use Rattle.std.specs.Prelude.{◌≡◌, ℕ, ◌+◌, ◌*◌, true, cond, List, [], ◌∷◌, ◌++◌, map, take, drop, replicate, ℤ, pos, ◌+ℤ◌, neg_ℤ, Some, None, Ok, Err, Option, Result, slice_index_or, slice_set}
 use Rattle.std.specs.Option.{unwrap_or}
 use Rattle.hourly.specs.declared.plain.PlainCell.{PlainCell}

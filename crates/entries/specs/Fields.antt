@@ -1,10 +1,10 @@
 -- The checks that an entry's fields meet, before its day and its book are looked at. Assumes nothing.
 --
 --   Check                  a condition, with the refusal that it gives
---   first_of cs             the refusal of the first check whose condition holds, if any holds
+--   first_of cs            the refusal of the first check whose condition holds, if any holds
 --   between a b z          z is a to b
 --   within n z             z is -n to n
---   field_checks sizes e    the checks of the entry e, in the order of the table of refusals
+--   field_checks sizes e   the checks of the entry e, in the order of the table of refusals
 use Rattle.std.specs.Prelude.{ℕ, ◌%◌, Bool, cond, not, ◌&&◌, List, [], ◌∷◌, ◌++◌, map, ℤ, pos, neg_ℤ, Some, None, Option, ◌==◌, int_le, unsigned_abs}
 use Rattle.entries.specs.declared.entry.Entry.{Entry}
 use Rattle.entries.specs.declared.entry.Entry.TheVariants.{Deposit, Withdraw, Register, Market, Close, Regulate, Meter, Evaluate}

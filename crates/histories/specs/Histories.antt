@@ -8,7 +8,7 @@
 --   running f x h     x, changed by each of them from the oldest on
 --   position .. cash  the figures of a history, counted from its accepted entries alone
 --   standing m h      all of them together
---   answer_of m h e    the reply to e after h
+--   answer_of m h e   the reply to e after h
 --   Answered m h      each reply is the one that the history before it gives
 --   recorded m h es   the history h with the entries es after it, oldest first, each with its reply
 --   answers m h es    those replies

@@ -1,7 +1,7 @@
 -- What a journal answers a line, and what it keeps afterwards. Assumes nothing.
 --
---   made_in v f                     what the journal v makes of a line that layers 1 and 2 read as f: an answer or a refusal
---   kept_in v f                     what it keeps afterwards
+--   made_in v f                    what the journal v makes of a line that layers 1 and 2 read as f: an answer or a refusal
+--   kept_in v f                    what it keeps afterwards
 --   Entered v line r w             the journal v made r of the line, and became w
 --   Answered v line a w            it answered a line that is not empty by a, and became w
 --   LineText v number line text w  it answered the line of this number by these bytes, and became w

@@ -1,7 +1,7 @@
 -- The layer, the number and the place of each refusal. Assumes nothing.
 --
 --   told f        of a refusal; what the layers below and the book refuse is told as they tell it
---   refused_as f   the answer that says so
+--   refused_as f  the answer that says so
 use Rattle.std.specs.Prelude.{pos}
 use Rattle.answers.specs.declared.Answer.{Answer}
 use Rattle.answers.specs.declared.Answer.TheVariants.{Refused}

@@ -1,7 +1,7 @@
 // What entries do to the cells of a row, and pages cleared (docs/RULES.md, "Cells", "Hour records", "Entries").
 #![tactic(auto)]
 
-ghost use Rattle.std.specs.Prelude.{◌≡◌, ◌≤◌, ◌&&◌, leb, map, length, replicate, ◌+ℤ◌, ◌*ℤ◌, if◌then◌else◌, Some, None, nat_le, unsigned_abs};
+ghost use Rattle.std.specs.Prelude.{◌≡◌, ◌≤◌, ◌&&◌, map, length, replicate, ◌+ℤ◌, ◌*ℤ◌, if◌then◌else◌, Some, None, nat_le, unsigned_abs};
 ghost use Rattle.std.specs.Option.{option_map};
 ghost use Rattle.hourly.specs.Cells.{CellFigures, blank, figures, plain};
 ghost use Rattle.hourly.specs.Records.{no_deliveries, record_plain};
@@ -52,7 +52,7 @@ pub fn change_cells<C: Change>(row: &mut [PlainCell], change: &C)
 impl Shift {
     // kWh added to positions, or none beyond ±499,000.
     pub fn new(kwh: i64) -> Option<Shift>
-        ensures { option_map (λ (s : Shift). s.kwh) result ≡ (if leb (unsigned_abs kwh) 499000 then Some kwh else None) }
+        ensures { option_map (λ (s : Shift). s.kwh) result ≡ (if nat_le (unsigned_abs kwh) 499000 then Some kwh else None) }
     {
         if kwh.unsigned_abs() > 499_000 {
             return None;
@@ -74,7 +74,7 @@ impl Change for Shift {
 impl Reading {
     // A reading, or none beyond ±499,999.
     pub fn new(kwh: i64) -> Option<Reading>
-        ensures { option_map (λ (s : Reading). s.kwh) result ≡ (if leb (unsigned_abs kwh) 499999 then Some kwh else None) }
+        ensures { option_map (λ (s : Reading). s.kwh) result ≡ (if nat_le (unsigned_abs kwh) 499999 then Some kwh else None) }
     {
         if kwh.unsigned_abs() > 499_999 {
             return None;
@@ -97,8 +97,8 @@ impl Change for Reading {
 impl Delivery {
     // A delivery, or none beyond ±499,000 kWh or ±99,999 CZK/MWh.
     pub fn new(kwh: i64, price: i64) -> Option<Delivery>
-        ensures kwh { option_map (λ (d : Delivery). d.kwh) result ≡ (if leb (unsigned_abs kwh) 499000 && nat_le (unsigned_abs price) 99999 then Some kwh else None) }
-        ensures price { option_map (λ (d : Delivery). d.price) result ≡ (if leb (unsigned_abs kwh) 499000 && nat_le (unsigned_abs price) 99999 then Some price else None) }
+        ensures kwh { option_map (λ (d : Delivery). d.kwh) result ≡ (if nat_le (unsigned_abs kwh) 499000 && nat_le (unsigned_abs price) 99999 then Some kwh else None) }
+        ensures price { option_map (λ (d : Delivery). d.price) result ≡ (if nat_le (unsigned_abs kwh) 499000 && nat_le (unsigned_abs price) 99999 then Some price else None) }
     {
         if kwh.unsigned_abs() > 499_000 || price.unsigned_abs() > 99_999 {
             return None;

@@ -1,7 +1,7 @@
 // The rules in use, picked by their numbers (docs/RULES.md, "book and show").
 #![tactic(auto)]
 
-ghost use Rattle.std.specs.Prelude.{◌≡◌, ◌≤◌, leb, ℤ, pos, if◌then◌else◌, nat_le, unsigned_abs};
+ghost use Rattle.std.specs.Prelude.{◌≡◌, ◌≤◌, ℤ, pos, if◌then◌else◌, nat_le, unsigned_abs};
 ghost use Rattle.entries.specs.Fields.{first_of};
 ghost use Rattle.hourly.specs.Records.{record_figures};
 ghost use Rattle.pricing.specs.Prices.{answered};
@@ -47,7 +47,7 @@ impl Pricing for ChosenPricing {
 
     ghost bounded = { elim [
       | Regulating default ↦
-          regulating_bounded (if leb (unsigned_abs default) 99999 then default else pos 0)
+          regulating_bounded (if nat_le (unsigned_abs default) 99999 then default else pos 0)
           (cond_both (nat_le (unsigned_abs default) 99999) default (pos 0) (λ (p : ℤ). unsigned_abs p ≤ 99999) (λ t. leb-true (unsigned_abs default) 99999 t) (λ _. omega arith))
       | Ladder ↦ λ si h ok. Prim.search rules
     ] };

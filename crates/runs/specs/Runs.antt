@@ -3,7 +3,7 @@
 --   ran m h es        what the book h holds after the entries es
 --   replies m h es    what it replies to each
 --   replied m h es rs the places rs for replies after them: the first hold the replies, the others are as they were
---   paid_in m h es     halers of the accepted deposits less those of the accepted withdrawals
+--   paid_in m h es    halers of the accepted deposits less those of the accepted withdrawals
 --   LevelPositions h  in every hour of every day the positions of all parties add up to 0
 --   CashIs h z        the cash of all parties adds up to z
 --   Laws m h es       both, and pages that fit and are sound, after the entries

@@ -1,7 +1,7 @@
 -- The two sharing rules. Both share the magnitude of N and restore its sign. Parties are counted from 0. Assumes nothing.
 --
 --   running n ws            the parts of the running rule
---   largest_remainder n ws   the parts of the largest remainder rule
+--   largest_remainder n ws  the parts of the largest remainder rule
 --   Serves n ws ps          the parts ps are floors, with one haler more for the largest remainders
 use Rattle.std.specs.Prelude.{◌≡◌, ℕ, ◌+◌, ◌-◌, ◌*◌, ◌/◌, ◌%◌, ◌<◌, Bool, true, false, cond, ◌&&◌, ◌||◌, ◌⊎◌, List, map, length, take, ℤ, pos, negsuc, neg_ℤ, ◌==◌, nat_lt, slice_index, slice_index_or, unsigned_abs}
 use Rattle.std.specs.List.{range_with_len}

@@ -1,7 +1,7 @@
 // The largest remainder rule: every party gets its floor, and the halers left over go one each to the largest remainders.
 ghost use Rattle.std.specs.Prelude.{◌≡◌, ℕ, ◌+◌, ◌*◌, ◌%◌, ◌<◌, ◌≤◌, map, length, replicate, if◌then◌else◌, None, nat_lt, slice_index};
 ghost use Rattle.sharing.specs.Limits.{refusal, answer, afterwards, magnitudes, Within, Light};
-ghost use Rattle.sharing.specs.Rules.{signed, largest_remainder, largest_shares, floors, rests as all-rests, before, rank, Serves};
+ghost use Rattle.sharing.specs.Rules.{signed, largest_remainder, largest_shares, floors, rests as all_rests, before, rank, Serves};
 ghost use Rattle.units.specs.Sums.{sum_n, page};
 ghost use Rattle.sharing.specs.Ranks.{largest_lawful};
 
@@ -84,7 +84,7 @@ fn allot(m: u64, weights: &[u64], total: u64, shares: &mut [u64], rests: &mut [u
     requires some { 1 ≤ total }
     requires even { (length shares.old ≡ length weights.now) × (length rests.old ≡ length weights.now) }
     ensures shares { shares.new ≡ largest_shares m weights.now }
-    ensures rests { rests.new ≡ all-rests m weights.now }
+    ensures rests { rests.new ≡ all_rests m weights.now }
 {
     divide(m, weights, total, shares, rests);
     serve(m - sum(shares), rests, shares);
@@ -98,7 +98,7 @@ fn divide(m: u64, weights: &[u64], total: u64, shares: &mut [u64], rests: &mut [
     requires some { 1 ≤ total }
     requires even { (length shares.old ≡ length weights.now) × (length rests.old ≡ length weights.now) }
     ensures shares { shares.new ≡ floors m weights.now }
-    ensures rests { rests.new ≡ all-rests m weights.now }
+    ensures rests { rests.new ≡ all_rests m weights.now }
 {
     for i in 0..weights.len() {
         shares[i] = floor(m, weights[i], total);

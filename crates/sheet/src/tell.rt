@@ -1,5 +1,5 @@
 // What a balanced sheet tells: only it tells amounts.
-ghost use Rattle.std.specs.Prelude.{◌≡◌, ◌-◌, ◌<◌, ◌&&◌, leb, pos, if◌then◌else◌, Some, None, nat_le, slice_index_or};
+ghost use Rattle.std.specs.Prelude.{◌≡◌, ◌-◌, ◌<◌, ◌&&◌, pos, if◌then◌else◌, Some, None, nat_le, slice_index_or};
 ghost use Rattle.sheet.specs.Sheets.{line_at, totals};
 
 use super::balanced::Balanced;
@@ -37,7 +37,7 @@ impl Balanced {
 
     // A party's line; none for a number that is not a party's.
     pub fn line(&self, party: usize) -> Option<Line>
-        ensures { result ≡ (if leb 1 party && nat_le party self.now.priced.gathered.count then Some (line_at self.now (party - 1)) else None) }
+        ensures { result ≡ (if nat_le 1 party && nat_le party self.now.priced.gathered.count then Some (line_at self.now (party - 1)) else None) }
     {
         if party < 1 || party > self.priced.gathered.count {
             return None;
@@ -47,7 +47,7 @@ impl Balanced {
 
     // A party's amount in halers; none for a number that is not a party's.
     pub fn amount(&self, party: usize) -> Option<i64>
-        ensures { result ≡ (if leb 1 party && nat_le party self.now.priced.gathered.count then Some (slice_index_or self.now.amounts (party - 1) (pos 0)) else None) }
+        ensures { result ≡ (if nat_le 1 party && nat_le party self.now.priced.gathered.count then Some (slice_index_or self.now.amounts (party - 1) (pos 0)) else None) }
     {
         if party < 1 || party > self.priced.gathered.count {
             return None;

@@ -2,7 +2,7 @@
 // The crates above share its definitions of rounding, sums and pages of 20, and its lemmas on them.
 #![tactic(auto)]
 
-ghost use Rattle.std.specs.Prelude.{◌≡◌, ◌≤◌, ◌&&◌, leb, ◌*ℤ◌, if◌then◌else◌, Some, None, nat_le, unsigned_abs};
+ghost use Rattle.std.specs.Prelude.{◌≡◌, ◌≤◌, ◌&&◌, ◌*ℤ◌, if◌then◌else◌, Some, None, nat_le, unsigned_abs};
 ghost use Rattle.units.specs.Rounding.{rounded, Nearest};
 
 // Tenths to the nearest haler, halves away from 0.
@@ -29,7 +29,7 @@ fn product(kwh: i64, price: i64) -> i64
 
 // The tenths of an energy at a price: none beyond ±2,000,000 kWh, which no imbalance passes, or beyond ±99,999 CZK/MWh.
 pub fn tenths_at(kwh: i64, price: i64) -> Option<i64>
-    ensures value { result ≡ (if leb (unsigned_abs kwh) 2000000 && nat_le (unsigned_abs price) 99999 then Some (kwh *ℤ price) else None) }
+    ensures value { result ≡ (if nat_le (unsigned_abs kwh) 2000000 && nat_le (unsigned_abs price) 99999 then Some (kwh *ℤ price) else None) }
 {
     if kwh.unsigned_abs() > 2_000_000 || price.unsigned_abs() > 99_999 {
         return None;
