@@ -4,9 +4,10 @@ use Rattle.std.proofs.lemmas.Bool.{and_parts, and_from, leb-true, ltb-true, eqb-
 use Rattle.std.proofs.lemmas.List.{get_or-take, get_or-drop}
 use Rattle.hourly.specs.declared.plain.PlainCell.{PlainCell}
 use Rattle.hourly.specs.Cells.{blank, read}
-use Rattle.needs.specs.declared.hour.HourPrices.{HourPrices}
-use Rattle.needs.specs.Prices.{exposure}
-use Rattle.needs.specs.Need.{added, counted, day_counted, day_in, need, need_of, need_with, position_in, position_with, price_at, rounded_up, total}
+use Rattle.cover.specs.declared.hour.HourPrices.{HourPrices}
+use Rattle.cover.specs.Prices.{exposure}
+use Rattle.cover.specs.Need.{position_in, price_at, rounded_up, total}
+use Rattle.needs.specs.Need.{added, counted, day_counted, day_in, need, need_of, need_with, position_with}
 use Rattle.entries.specs.declared.entry.DayState.TheVariants.{Open}
 use Rattle.entries.specs.declared.entry.Entry.{Entry}
 use Rattle.entries.specs.declared.entry.Entry.TheVariants.{Deposit, Withdraw, Register, Market, Close, Regulate, Meter, Evaluate}

@@ -10,8 +10,8 @@ use Rattle.hourly.specs.Cells.{CellFigures}
 use Rattle.hourly.specs.Records.{HourFigures}
 use Rattle.pricing.specs.Prices.{PriceMap}
 use Rattle.sheet.specs.Evaluation.{ShareMap}
-use Rattle.needs.specs.Prices.{in_use}
-use Rattle.needs.specs.declared.hour.HourPrices.{HourPrices}
+use Rattle.cover.specs.Prices.{in_use}
+use Rattle.cover.specs.declared.hour.HourPrices.{HourPrices}
 use Rattle.entries.specs.declared.entry.DayState.{DayState}
 use Rattle.entries.specs.declared.entry.Sizes.{Sizes}
 use Rattle.book.specs.declared.account.Account.{Account}

@@ -1,7 +1,7 @@
 // The statement of a party (docs/RULES.md, "book and show").
 ghost use Rattle.std.specs.Prelude.{◌≡◌, ◌-◌, ◌<◌, length, pos, None};
 ghost use Rattle.needs.specs.Need.{need_of};
-ghost use Rattle.needs.specs.Prices.{in_use};
+ghost use Rattle.cover.specs.Prices.{in_use};
 ghost use Rattle.book.specs.Standing.{index, terms};
 ghost use Rattle.book.specs.Checks.{balance_at};
 ghost use Rattle.book.specs.Sales.{cells_of, states_of};
@@ -11,9 +11,9 @@ ghost use Rattle.book.specs.Posting.{show_refusal, statement_at, statement_on};
 use crate::book::Book;
 use crate::index;
 use crate::statement::Statement;
+use cover::prices::ParametricPrices;
 use entries::refusal::Refusal;
 use needs::need;
-use needs::prices::ParametricPrices;
 use pricing::Pricing;
 use sharing::Sharing;
 

@@ -8,7 +8,7 @@ pub total_more : (f : ℕ → ℕ) (n : ℕ) → total f (n + 1) ≡ total f n +
 total_more f n = let e : n + 1 ≡ suc n = omega arith in ap (total f) e
 
 -- a sum that takes the next term is the total of one term more
-total_adds : (f : ℕ → ℕ) (n a b t : ℕ) → a ≡ total f n → b ≡ f n → t ≡ a + b → t ≡ total f (n + 1)
+pub total_adds : (f : ℕ → ℕ) (n a b t : ℕ) → a ≡ total f n → b ≡ f n → t ≡ a + b → t ≡ total f (n + 1)
 total_adds f n a b t ea eb et = omega (arith, ea, eb, et, total_more f n)
 
 -- the tenths with one day more: its own are added if it counts

@@ -16,7 +16,7 @@ ended_more : (lines : List (List ℕ)) (line : List ℕ) → ended (lines ++ lin
 ended_more [] line = refl
 ended_more (l ∷ ls) line = ap (λ x. l ++ (10 ∷ x)) (ended_more ls line) ∙ sym (append_assoc l (10 ∷ ended ls) (line ++ 10 ∷ []))
 
-divided_byte : {input rest : List ℕ} {lines : List (List ℕ)} (b : ℕ) → (b ≡ 10 → ⊥) → Divided input lines rest → Divided (input ++ b ∷ []) lines (rest ++ b ∷ [])
+pub divided_byte : {input rest : List ℕ} {lines : List (List ℕ)} (b : ℕ) → (b ≡ 10 → ⊥) → Divided input lines rest → Divided (input ++ b ∷ []) lines (rest ++ b ∷ [])
 divided_byte {input} {rest} {lines} b ne d =
     record {
       unbroken = d.unbroken;
@@ -24,7 +24,7 @@ divided_byte {input} {rest} {lines} b ne d =
       whole = ap (λ x. x ++ b ∷ []) d.whole ∙ append_assoc (ended lines) rest (b ∷ []);
     }
 
-divided_end : {input rest : List ℕ} {lines : List (List ℕ)} → Divided input lines rest → Divided (input ++ 10 ∷ []) (lines ++ rest ∷ []) []
+pub divided_end : {input rest : List ℕ} {lines : List (List ℕ)} → Divided input lines rest → Divided (input ++ 10 ∷ []) (lines ++ rest ∷ []) []
 divided_end {input} {rest} {lines} d =
     record {
       unbroken = All-push Unbroken lines rest d.unbroken d.going;
@@ -48,7 +48,7 @@ written_more lines line output text t o =
 
 -- The line call's bytes
 
-text_is : (d text e : List ℕ) (n : ℕ) → n ≡ length text → e ≡ laid d 0 text → take n e ≡ text
+pub text_is : (d text e : List ℕ) (n : ℕ) → n ≡ length text → e ≡ laid d 0 text → take n e ≡ text
 text_is d text e n l w = ap (take n) w ∙ take_at text (drop (0 + length text) d) n (sym l)
 
 pub called_outcome : (d e : List ℕ) (m n : ℕ) (lines : List (List ℕ)) (rest : List ℕ) → m ≡ min (length lines + 1) 1000000000 → LineCall d (pos m) (take 201 rest) (Some n) e → Outcome (length lines + 1) rest (take n e)

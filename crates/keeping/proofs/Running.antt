@@ -1,37 +1,16 @@
 -- A run over the bytes of an input: one byte more, one line more. Assumes nothing.
-use Rattle.std.proofs.Common.{◌≡◌, ℕ, ◌+◌, ◌<◌, ◌≤◌, min, List, [], ◌∷◌, ◌++◌, length, get_or, take, drop, ℤ, pos, Some, None, Option, sym, refl, ap, ◌∙◌, subst, append_assoc, append-nil, add-zero, arith}
-use Rattle.std.proofs.lemmas.List.{take_at, take_all, take_more}
-use Rattle.std.proofs.ByRecursion.{All-push}
+use Rattle.std.proofs.Common.{◌≡◌, ℕ, ◌+◌, ◌<◌, ◌≤◌, min, List, [], ◌∷◌, ◌++◌, length, get_or, take, ℤ, pos, Some, None, Option, sym, refl, ap, ◌∙◌, subst, append_assoc, append-nil, add-zero, arith}
+use Rattle.std.proofs.lemmas.List.{take_all, take_more}
 use Rattle.std.proofs.lemmas.Int.{ints}
 use Rattle.answers.specs.Writing.{laid}
 use Rattle.keeping.specs.declared.input.Input.{Input}
 use Rattle.keeping.specs.View.{View, view}
 use Rattle.keeping.specs.Answered.{LineText, LineCall}
-use Rattle.keeping.specs.Lines.{Unbroken, ended, Divided, Outcome, Transcript, Whole, kept, Holds, Ran, Runs, Filled, Takes}
-use Rattle.keeping.proofs.Keeping.{front_more}
+use Rattle.journal.specs.Lines.{Filled}
+use Rattle.journal.proofs.Keeping.{front_more}
+use Rattle.journal.proofs.Running.{divided_byte, divided_end, text_is}
+use Rattle.keeping.specs.Lines.{Outcome, Transcript, Whole, kept, Holds, Ran, Runs, Takes}
 use Rattle.keeping.proofs.Cutting.{text-whole}
-
--- Lines
-
-ended_more : (lines : List (List ℕ)) (line : List ℕ) → ended (lines ++ line ∷ []) ≡ ended lines ++ (line ++ 10 ∷ [])
-ended_more [] line = refl
-ended_more (l ∷ ls) line = ap (λ x. l ++ (10 ∷ x)) (ended_more ls line) ∙ sym (append_assoc l (10 ∷ ended ls) (line ++ 10 ∷ []))
-
-divided_byte : {input rest : List ℕ} {lines : List (List ℕ)} (b : ℕ) → (b ≡ 10 → ⊥) → Divided input lines rest → Divided (input ++ b ∷ []) lines (rest ++ b ∷ [])
-divided_byte {input} {rest} {lines} b ne d =
-    record {
-      unbroken = d.unbroken;
-      going = All-push (λ x. x ≡ 10 → ⊥) rest b d.going ne;
-      whole = ap (λ x. x ++ b ∷ []) d.whole ∙ append_assoc (ended lines) rest (b ∷ []);
-    }
-
-divided_end : {input rest : List ℕ} {lines : List (List ℕ)} → Divided input lines rest → Divided (input ++ 10 ∷ []) (lines ++ rest ∷ []) []
-divided_end {input} {rest} {lines} d =
-    record {
-      unbroken = All-push Unbroken lines rest d.unbroken d.going;
-      going = tt;
-      whole = ap (λ x. x ++ 10 ∷ []) d.whole ∙ append_assoc (ended lines) rest (10 ∷ []) ∙ sym (ended_more lines rest) ∙ sym (append-nil (ended (lines ++ rest ∷ [])));
-    }
 
 -- Answers
 
@@ -49,9 +28,6 @@ written_more v u w lines line output text t o =
     transcript_more v u w 1 lines line output text t (subst (λ k. Outcome u k line text w) e o)
 
 -- The line call's bytes
-
-text_is : (d text e : List ℕ) (n : ℕ) → n ≡ length text → e ≡ laid d 0 text → take n e ≡ text
-text_is d text e n l w = ap (take n) w ∙ take_at text (drop (0 + length text) d) n (sym l)
 
 pub called_outcome : (v w : View) (d e : List ℕ) (m n : ℕ) (lines : List (List ℕ)) (rest : List ℕ) → m ≡ min (length lines + 1) 1000000000 → LineCall v d (pos m) (take 201 rest) (Some n) w e → Outcome v (length lines + 1) rest (take n e) w
 called_outcome v w d e m n lines rest h c =

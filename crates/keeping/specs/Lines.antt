@@ -1,35 +1,18 @@
--- The lines of an input, and what is written to them all. Assumes nothing.
+-- What is written to all lines of an input by a journal that keeps a book. How an input is divided into lines, and a buffer filled, is as in `journal`. Assumes nothing.
 --
---   Divided input lines rest      the input is these lines, each ended by byte 10, and the rest after the last of them
 --   Transcript v n lines output w the journal v answers these lines, numbered from n on, by the output, and becomes w
 --   Whole v input output w        the journal v answers every line of an input that has ended by the output, and becomes w
 --   Ran v i input output          as the input so far has come in, the journal v answered the lines that ended by the output, and i holds the journal now and the rest
 --   Runs i more text j            as more came in, i became j, and text was written
---   Filled d n e                  n bytes were written at the start of the buffer d, which became e
 --   Takes i d byte r j e          what the call for the next byte does, with the buffer d
 --   Finishes i d r j e            what the call at the end of the input does
-use Rattle.std.specs.Prelude.{◌≡◌, ℕ, ◌+◌, ◌<◌, ◌≤◌, min, List, [], ◌∷◌, ◌++◌, length, take, pos, Some, None, Option, ◌≢◌}
-use Rattle.std.specs.List.{AllByRecursion}
-use Rattle.answers.specs.Writing.{laid}
+use Rattle.std.specs.Prelude.{◌≡◌, ℕ, ◌+◌, ◌<◌, ◌≤◌, min, List, [], ◌∷◌, ◌++◌, length, take, pos, Some, None, Option}
+use Rattle.journal.specs.Lines.{Divided, Filled}
 use Rattle.keeping.specs.declared.input.Line.{Line}
 use Rattle.keeping.specs.declared.input.Input.{Input}
 use Rattle.keeping.specs.declared.journal.Journal.{Journal}
 use Rattle.keeping.specs.View.{View, view}
 use Rattle.keeping.specs.Answered.{LineText}
-
--- no byte 10
-abbrev pub Unbroken : List ℕ → Type 0
-Unbroken line = AllByRecursion (λ b. b ≢ 10) line
-
--- each line and the byte 10 that ends it
-abbrev pub ended : List (List ℕ) → List ℕ
-ended [] = []
-ended (line ∷ lines) = line ++ (10 ∷ ended lines)
-
-pub record Divided (input : List ℕ) (lines : List (List ℕ)) (rest : List ℕ) : Type 0 where
-  pub unbroken : AllByRecursion Unbroken lines
-  pub going : Unbroken rest
-  pub whole : input ≡ ended lines ++ rest
 
 -- the bytes written to a line, and the journal after it; from line 1,000,000,000 on nothing is written and nothing changes
 abbrev pub Outcome : View → ℕ → List ℕ → List ℕ → View → Type 0
@@ -62,11 +45,6 @@ pub record Ran (v : View) (i : Input) (input output : List ℕ) : Type 0 where
 
 abbrev pub Runs : Input → List ℕ → List ℕ → Input → Type 0
 Runs i more text j = (v : View) (input output : List ℕ) → Ran v i input output → Ran v j (input ++ more) (output ++ text)
-
--- at most 4,096 bytes, and no byte after them altered
-pub record Filled (d : List ℕ) (n : ℕ) (e : List ℕ) : Type 0 where
-  pub only : e ≡ laid d 0 (take n e)
-  pub within : n ≤ 4096
 
 -- a byte came in: with a buffer under 4,096 bytes nothing is taken, else what answers it is at the buffer's start
 abbrev pub Takes : Input → List ℕ → ℕ → Option ℕ → Input → List ℕ → Type 0

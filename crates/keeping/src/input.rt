@@ -1,7 +1,8 @@
 // The input of a journal, taken byte by byte and answered line by line.
 ghost use Rattle.std.specs.Prelude.{◌≡◌, ℕ, ◌+◌, ◌<◌, ◌≤◌, List, [], ◌∷◌, ◌++◌, length, take, ℤ, ◌≢◌};
 ghost use Rattle.keeping.specs.View.{View, view};
-ghost use Rattle.keeping.specs.Lines.{kept, Holds, Outcome, Whole, Ran, Runs, Filled, Takes, Finishes};
+ghost use Rattle.journal.specs.Lines.{Filled};
+ghost use Rattle.keeping.specs.Lines.{kept, Holds, Outcome, Whole, Ran, Runs, Takes, Finishes};
 
 use crate::journal::Journal;
 use answers::ANSWER_BYTES;

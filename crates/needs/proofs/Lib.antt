@@ -1,4 +1,3 @@
 pub mod Exposures
 pub mod Totals
-pub mod Tables
 pub mod Sizes

@@ -1,18 +1,13 @@
--- Totals one term further or of the same terms, the tenths of one day more, and a trade of nothing. Assumes nothing.
+-- Totals of the same terms, the tenths of one day more, and a trade of nothing. Assumes nothing.
 use Rattle.std.proofs.Common.{◌≡◌, ℕ, zero, suc, ◌+◌, ◌*◌, Bool, true, false, cond, ◌&&◌, ltb, leb, List, ℤ, pos, ◌+ℤ◌, sym, refl, ap, ◌∙◌, ap₂, arith}
 use Rattle.std.proofs.lemmas.Int.{ints}
 use Rattle.std.proofs.lemmas.Bool.{cond-true, cond-false}
+use Rattle.cover.proofs.Totals.{total_adds}
 use Rattle.hourly.specs.declared.plain.PlainCell.{PlainCell}
-use Rattle.needs.specs.declared.hour.HourPrices.{HourPrices}
-use Rattle.needs.specs.Prices.{exposure}
-use Rattle.needs.specs.Need.{day_counted, day_tenths, position_in, position_with, price_at, tenths, total}
-
-pub total_more : (f : ℕ → ℕ) (n : ℕ) → total f (n + 1) ≡ total f n + f n
-total_more f n = let e : n + 1 ≡ suc n = omega arith in ap (total f) e
-
--- a sum that takes the next term is the total of one term more
-total_adds : (f : ℕ → ℕ) (n a b t : ℕ) → a ≡ total f n → b ≡ f n → t ≡ a + b → t ≡ total f (n + 1)
-total_adds f n a b t ea eb et = omega (arith, ea, eb, et, total_more f n)
+use Rattle.cover.specs.declared.hour.HourPrices.{HourPrices}
+use Rattle.cover.specs.Prices.{exposure}
+use Rattle.cover.specs.Need.{position_in, price_at, total}
+use Rattle.needs.specs.Need.{day_counted, day_tenths, position_with, tenths}
 
 -- the tenths with one day more: its own are added if it counts
 pub day_adds : (ps : List HourPrices) (hours : ℕ → ℕ) (counts : ℕ → Bool) (kwh : ℕ → ℕ → ℤ) (d a b t : ℕ) → counts d ≡ true → a ≡ tenths ps hours counts kwh d → b ≡ day_tenths ps (hours d) (kwh d) → t ≡ a + b → t ≡ tenths ps hours counts kwh (d + 1)

@@ -1,11 +1,8 @@
--- A party's need (docs/RULES.md, "Cover"). Days and hours are counted from 0 here: hour 0 is the first of its day. Assumes nothing.
+-- A party's need (docs/RULES.md, "Cover"). Days and hours are counted from 0 here: hour 0 is the first of its day. Prices, what a position exposes a party to, totals and rounding up are those of `cover`. Assumes nothing.
 --
---   total f n                              f 0 + f 1 + … + f (n - 1)
 --   day_tenths ps hours kwh                tenths of a day whose positions are kwh 0 to kwh (hours - 1)
 --   day_counted ps hours counts kwh d      tenths of day d, which has `hours d` hours, or 0 if it does not count
 --   tenths ps hours counts kwh days        tenths of the days that count; kwh d h is the position in hour h of day d
---   RoundedUp t n                          n is the least number of halers that is not less than t tenths
---   rounded_up t                           that number, computed
 --   need ps hours counts kwh days          what the party needs, in halers
 --   Needs t r                              an answer r, if there is one, is what t tenths need
 --
@@ -13,21 +10,13 @@
 --
 --   tenths_of, need_of ps states cells                    as the positions stand
 --   tenths_with, need_with ps states cells start end kwh  after a trade that adds kwh at places start to end - 1
-use Rattle.std.specs.Prelude.{ℕ, zero, suc, ◌+◌, ◌*◌, ◌/◌, ◌≤◌, Bool, true, false, cond, ◌&&◌, List, length, ℤ, pos, negsuc, ◌+ℤ◌, Some, None, Option, ◌==◌, nat_le, nat_lt, slice_index_or, unsigned_abs}
+use Rattle.std.specs.Prelude.{ℕ, ◌+◌, ◌*◌, Bool, true, false, cond, ◌&&◌, List, length, ℤ, pos, negsuc, ◌+ℤ◌, Some, None, Option, nat_le, nat_lt, slice_index_or, unsigned_abs}
 use Rattle.entries.specs.declared.entry.DayState.{DayState}
 use Rattle.entries.specs.declared.entry.DayState.TheVariants.{Open, Closed, Daily, Monthly, Final}
 use Rattle.hourly.specs.declared.plain.PlainCell.{PlainCell}
-use Rattle.hourly.specs.Cells.{read, blank}
-use Rattle.needs.specs.declared.hour.HourPrices.{HourPrices}
-use Rattle.needs.specs.Prices.{exposure, prices}
-
-abbrev pub total : (ℕ → ℕ) → ℕ → ℕ
-total f zero = 0
-total f (suc n) = total f n + f n
-
--- the prices of hour h, none past the table
-abbrev pub price_at : List HourPrices → ℕ → HourPrices
-price_at ps h = slice_index_or ps h (prices 0 0)
+use Rattle.cover.specs.declared.hour.HourPrices.{HourPrices}
+use Rattle.cover.specs.Prices.{exposure}
+use Rattle.cover.specs.Need.{RoundedUp, position_in, price_at, rounded_up, total}
 
 abbrev pub day_tenths : List HourPrices → ℕ → (ℕ → ℤ) → ℕ
 day_tenths ps hours kwh = total (λ h. exposure (price_at ps h) (kwh h)) hours
@@ -37,12 +26,6 @@ day_counted ps hours counts kwh d = cond (counts d) (day_tenths ps (hours d) (kw
 
 abbrev pub tenths : List HourPrices → (ℕ → ℕ) → (ℕ → Bool) → (ℕ → ℕ → ℤ) → ℕ → ℕ
 tenths ps hours counts kwh days = total (day_counted ps hours counts kwh) days
-
-abbrev pub RoundedUp : ℕ → ℕ → Type 0
-RoundedUp t n = (t ≤ 10 * n) × ((m : ℕ) → t ≤ 10 * m → n ≤ m)
-
-abbrev pub rounded_up : ℕ → ℕ
-rounded_up t = (t + 9) / 10
 
 abbrev pub need : List HourPrices → (ℕ → ℕ) → (ℕ → Bool) → (ℕ → ℕ → ℤ) → ℕ → ℕ
 need ps hours counts kwh days = rounded_up (tenths ps hours counts kwh days)
@@ -54,14 +37,6 @@ Needs t (Some (pos n)) = RoundedUp t n
 Needs t (Some (negsuc n)) = ⊥
 
 -- A party's row of cells, 24 for each day, hour by hour
-
--- there are 1 to 62 days, and 24 cells for each
-abbrev pub fits : ℕ → ℕ → Bool
-fits days cells = nat_le 1 days && nat_le days 62 && cells == days * 24
-
--- the position that a party's cells have in hour h of day d
-abbrev pub position_in : List PlainCell → ℕ → ℕ → ℤ
-position_in cells d h = (read (slice_index_or cells (d * 24 + h) blank)).position
 
 -- whether a day in a state counts
 abbrev pub counted : DayState → Bool

@@ -1,21 +1,20 @@
-// Cover (docs/RULES.md, "Cover"): parametric prices, and what a party needs for the positions of its days.
+// Cover (docs/RULES.md, "Cover"): what a party needs for the positions of its days, by their states, also after a trade that is not yet written.
 #![tactic(auto)]
 
 ghost use Rattle.std.specs.Prelude.{◌≡◌, ◌+◌, ◌*◌, ◌<◌, ◌≤◌, true, ◌&&◌, length, pos, ◌+ℤ◌, if◌then◌else◌, Some, None, slice_index_or, unsigned_abs};
 ghost use Rattle.std.specs.Option.{option_map};
 ghost use Rattle.hourly.specs.Cells.{blank, read};
-ghost use Rattle.needs.specs.Prices.{exposure, in_range, in_use, pair_in_range, prices};
-ghost use Rattle.needs.specs.Need.{Needs, RoundedUp, added, counted, day_tenths, fits, need_of, need_with, position_with, rounded_up, tenths_of, tenths_with, tradable};
+ghost use Rattle.cover.specs.Prices.{exposure};
+ghost use Rattle.cover.specs.Need.{RoundedUp, fits, rounded_up};
+ghost use Rattle.needs.specs.Need.{Needs, added, counted, day_tenths, need_of, need_with, position_with, tenths_of, tenths_with, tradable};
 
+use cover::hour::HourPrices;
+use cover::prices::ParametricPrices;
 use entries::entry::DayState;
-use hour::HourPrices;
 use hourly::cell::Cell;
 use hourly::plain::PlainCell;
-use prices::ParametricPrices;
 use trade::Trade;
 
-pub mod hour;
-pub mod prices;
 pub mod trade;
 
 // What a position exposes a party to in one hour, in tenths.
@@ -146,59 +145,6 @@ fn tradable(trade: &Trade) -> bool
     ensures { result ≡ tradable trade.now.kwh }
 {
     trade.kwh.unsigned_abs() <= 499_000
-}
-
-// Both prices of an hour are at most 99,999.
-fn pair_in_range(pair: &HourPrices) -> bool
-    ensures { result ≡ pair_in_range pair.now }
-{
-    pair.short <= 99_999 && pair.long <= 99_999
-}
-
-// No price of a table is above 99,999.
-fn in_range(hours: &[HourPrices; 24]) -> bool
-    ensures { result ≡ in_range hours.now }
-{
-    for pair in hours {
-        if !pair_in_range(pair) {
-            return false;
-        }
-    }
-    true
-}
-
-// The prices of an hour.
-fn pair(short: u64, long: u64) -> HourPrices
-    ensures { result ≡ prices short long }
-{
-    HourPrices { short, long }
-}
-
-impl ParametricPrices {
-    // The table of these prices, hour 1 first, or none where one is above 99,999.
-    pub fn new(hours: [HourPrices; 24]) -> Option<ParametricPrices>
-        ensures { option_map (λ (p : ParametricPrices). p.hours) result ≡ (if in_range hours then Some hours else None) }
-    {
-        if !in_range(&hours) {
-            return None;
-        }
-        Some(ParametricPrices { hours })
-    }
-
-    // The table in use.
-    pub fn in_use() -> ParametricPrices
-        ensures { result.hours ≡ in_use }
-    {
-        let night = pair(2_400, 600);
-        let morning = pair(3_600, 700);
-        let day = pair(4_500, 900);
-        let evening = pair(3_000, 700);
-        let hours = [
-            night, night, night, night, night, night, morning, morning, day, day, day, day, day,
-            day, day, day, day, day, day, day, evening, evening, evening, evening,
-        ];
-        ParametricPrices { hours }
-    }
 }
 
 // What a party needs, or none where the cells are not those of its days.

@@ -1,8 +1,8 @@
 // The worked figures of the rules, trades not yet written, days that do not count, the edges of each range, and where there is no answer.
-use super::hour::HourPrices;
-use super::prices::ParametricPrices;
 use super::trade::Trade;
 use super::{need, need_with};
+use cover::hour::HourPrices;
+use cover::prices::ParametricPrices;
 use entries::entry::DayState;
 use hourly::plain::PlainCell;
 
@@ -193,18 +193,4 @@ fn the_sum_is_rounded_up_once(rt: HostRuntime) {
     assert_eq!(rt; at_eleven(1), Some(2));
     assert_eq!(rt; at_eleven(2), Some(3));
     assert_eq!(rt; at_eleven(10), Some(11));
-}
-
-// Whether there is a table with these prices in the last hour.
-fn admitted(short: u64, long: u64) -> bool {
-    let mut hours = [HourPrices { short: 0, long: 0 }; 24];
-    hours[23] = HourPrices { short, long };
-    ParametricPrices::new(hours).is_some()
-}
-
-#[test]
-fn prices_in_range(rt: HostRuntime) {
-    assert!(rt; admitted(99_999, 99_999));
-    assert!(rt; !admitted(100_000, 0));
-    assert!(rt; !admitted(0, 100_000));
 }

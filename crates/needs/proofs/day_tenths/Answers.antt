@@ -1,8 +1,9 @@
 use Rattle.std.proofs.Common.{◌≡◌, ℕ, ◌+◌, ◌≤◌, ℤ, nat_abs, sym, ap, ◌∙◌, subst, arith, w64, to_z, of_z, rules}
-use Rattle.needs.specs.Prices.{exposure}
-use Rattle.needs.specs.Need.{position_with, price_at, total}
-use Rattle.needs.proofs.Tables.{price_small}
-use Rattle.needs.proofs.Totals.{total_more}
+use Rattle.cover.specs.Prices.{exposure}
+use Rattle.cover.specs.Need.{price_at, total}
+use Rattle.needs.specs.Need.{position_with}
+use Rattle.cover.proofs.Tables.{price_small}
+use Rattle.cover.proofs.Totals.{total_more}
 use Rattle.needs.proofs.day_tenths.Goals as goal
 
 pub exposure-tenths-requires : goal.exposure-tenths-requires

@@ -1,6 +1,7 @@
 use Rattle.std.proofs.Common.{◌≡◌, ◌*◌, ◌≤◌}
-use Rattle.needs.specs.Prices.{exposure}
-use Rattle.needs.specs.Need.{position_with, price_at, total}
+use Rattle.cover.specs.Prices.{exposure}
+use Rattle.cover.specs.Need.{price_at, total}
+use Rattle.needs.specs.Need.{position_with}
 use Rattle.needs.proofs.day_tenths.Given as goal
 
 abbrev pub invariant-loop-hour : goal.invariant-loop-hour

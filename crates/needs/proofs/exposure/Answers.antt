@@ -1,7 +1,8 @@
 use Rattle.std.proofs.Common.{◌≡◌, ℕ, ◌*◌, ◌≤◌, ℤ, pos, nat_abs, sym, ap, ◌∙◌, subst, w64, to_z, of_z, rules}
 use lib.Signed.{lt_z}
-use Rattle.needs.specs.Prices.{exposure}
-use Rattle.needs.proofs.Exposures.{bought, sold, exposure_small}
+use Rattle.cover.specs.Prices.{exposure}
+use Rattle.cover.proofs.Exposures.{bought, sold}
+use Rattle.needs.proofs.Exposures.{exposure_small}
 use Rattle.needs.proofs.exposure.Goals as goal
 
 pub returns-then-position-lt0 : goal.returns-then-position-lt0

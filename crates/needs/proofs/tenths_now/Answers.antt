@@ -1,5 +1,6 @@
 use Rattle.std.proofs.Common.{length, pos, ◌∙◌}
-use Rattle.needs.specs.Need.{day_in, position_in, position_with}
+use Rattle.cover.specs.Need.{position_in}
+use Rattle.needs.specs.Need.{day_in, position_with}
 use Rattle.needs.proofs.Totals.{tenths-same, untraded}
 use Rattle.needs.proofs.tenths_now.Goals as goal
 

@@ -1,6 +1,6 @@
 use Rattle.std.proofs.Common.{◌≡◌, length, pos, refl, ap, ◌∙◌, w64, to_z, of_z, rules}
 use Rattle.needs.specs.Need.{need_with}
-use Rattle.needs.specs.Prices.{in_use}
+use Rattle.cover.specs.Prices.{in_use}
 use Rattle.book.specs.Standing.{terms}
 use Rattle.book.specs.Held.{held}
 use Rattle.book.specs.Sales.{cells_of, states_of, trade_of}

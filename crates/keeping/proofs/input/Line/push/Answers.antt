@@ -1,5 +1,5 @@
 use Rattle.std.proofs.Common.{◌≡◌, length, rules}
-use Rattle.keeping.proofs.Keeping.{kept_more, kept_full}
+use Rattle.journal.proofs.Keeping.{kept_more, kept_full}
 use Rattle.keeping.proofs.input.Line.push.Goals as goal
 
 pub returns-then-at-lt-KEPT : goal.returns-then-at-lt-KEPT

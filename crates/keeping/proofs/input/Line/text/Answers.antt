@@ -1,5 +1,5 @@
 use Rattle.std.proofs.Common.{◌≡◌, length, rules}
-use Rattle.keeping.proofs.Keeping.{kept_part}
+use Rattle.journal.proofs.Keeping.{kept_part}
 use Rattle.keeping.proofs.input.Line.text.Goals as goal
 
 pub returns : goal.returns
