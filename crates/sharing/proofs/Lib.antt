@@ -1,2 +1,4 @@
 pub mod Ranges
 pub mod Parts
+pub mod Ranks
+pub mod Signs

@@ -6,7 +6,7 @@ use Rattle.units.specs.Sums.{sum_n, page}
 use Rattle.units.proofs.Integers.{nat_abs_mul}
 use Rattle.units.proofs.Summing.{page-inside, page_past}
 use Rattle.sharing.specs.Laws.{Lawful}
-use Rattle.sharing.specs.Signs.{at_most_sum}
+use Rattle.sharing.proofs.Signs.{at_most_sum}
 
 some_part_within : (f : ℤ → List ℕ → List ℤ) → Lawful f → (n : ℤ) (ws : List ℕ) (k : ℕ) → 0 < sum_n ws → k < length ws → nat_abs (get_or (f n ws) k (pos 0)) ≤ nat_abs n
 some_part_within f laws n ws k p h =

@@ -1,16 +1,16 @@
 -- The largest remainder rule, by the parties before each, is the same as halers handed out one by one; so it keeps the laws. Assumes nothing.
-use Rattle.std.specs.Prelude.{◌≡◌, ℕ, zero, suc, ◌+◌, ◌-◌, ◌*◌, ◌%◌, ◌<◌, ◌≤◌, Bool, true, false, cond, ◌⊎◌, List, [], ◌∷◌, map, length, get_or, take, ℤ, pos, ◌==◌, nat_lt, slice_index, slice_index_or, unsigned_abs, refl}
-use Rattle.std.proofs.Common.{arith, not-suc-le-zero, inl, inr, ⊎_elim, sym, ap, subst, ◌∙◌}
+use Rattle.std.specs.Prelude.{◌≡◌, ℕ, zero, suc, ◌+◌, ◌-◌, ◌*◌, ◌%◌, ◌<◌, ◌≤◌, true, false, cond, List, [], ◌∷◌, map, length, take, ◌==◌, nat_lt, slice_index}
+use Rattle.std.proofs.Common.{arith, not-suc-le-zero, ⊎_elim, sym, ap, subst, ◌∙◌}
 use Rattle.std.specs.List.{range_with_len}
-use Rattle.std.proofs.lemmas.List.FromFn.{length-map-range_with_len, get_or-map-range_with_len, map-range_with_len_more, fill_by_all}
+use Rattle.std.proofs.lemmas.List.FromFn.{length-map-range_with_len, get_or-map-range_with_len, map-range_with_len_more}
 use Rattle.std.proofs.lemmas.List.{ext_get_or, take_all, length-map}
 use Rattle.std.proofs.lemmas.Bool.{both_ways, cond_both, cond-true, cond-false, lt-ltb, le-ltb, eq-eqb, ne_eqb, or_left, or_right, or_from, and_from, and_left, and_right, cases_lt}
-use Rattle.units.specs.Sums.{sum_n, page}
-use Rattle.units.proofs.Summing.{sum_n-append, sum_n_more, page-inside}
+use Rattle.units.specs.Sums.{sum_n}
+use Rattle.units.proofs.Summing.{sum_n-append, sum_n_more}
 use Rattle.sharing.specs.Laws.{Lawful}
-use Rattle.sharing.specs.Rules.{floors, rests, leftover, before, rank, largest_share, largest_shares, largest_remainder, signed, below_zero, Serves}
-use Rattle.sharing.specs.Signs.{Splits, splits_same, lawful, get_or_signed, signed_same}
-use Rattle.sharing.specs.Leftovers.{Ahead, give, handed, Enough, enough, give_length, give_sum, give_at, give_order, no_weight, leftover_is, handed_splits}
+use Rattle.sharing.specs.Rules.{floors, rests, leftover, before, rank, largest_share, largest_shares, largest_remainder}
+use Rattle.sharing.specs.Signs.{Splits, splits_same, lawful}
+use Rattle.sharing.specs.Leftovers.{Ahead, give, handed, Enough, enough, give_length, give_sum, give_at, give_order, no_weight, handed_splits}
 
 -- Sums over the first n parties
 
@@ -49,7 +49,7 @@ tally_extra xs ys (suc n) hx hy h =
 
 -- The order of the parties
 
-before_from : (rs : List ℕ) (j k : ℕ) → Ahead rs j k → before rs j k ≡ true
+pub before_from : (rs : List ℕ) (j k : ℕ) → Ahead rs j k → before rs j k ≡ true
 before_from rs j k a =
     ⊎_elim
     (λ l. or_left (nat_lt (slice_index rs k) (slice_index rs j)) _ (lt-ltb (slice_index rs k) (slice_index rs j) l))
@@ -71,7 +71,7 @@ not_before_self rs k = or_from _ _ (le-ltb (slice_index rs k) (slice_index rs k)
 abbrev extra : ℕ → List ℕ → List ℕ → ℕ → ℕ
 extra l rs qs j = slice_index (give l rs qs) j - slice_index qs j
 
-abbrev ahead_of : List ℕ → ℕ → ℕ → ℕ
+abbrev pub ahead_of : List ℕ → ℕ → ℕ → ℕ
 ahead_of rs k j = cond (before rs j k) 1 0
 
 extra_total : (l W : ℕ) (rs qs : List ℕ) → Enough l W rs qs → tally (extra l rs qs) (length rs) ≡ l
@@ -131,7 +131,7 @@ handed_at m ws k h =
     omega (arith, ap (λ (xs : List ℕ). slice_index xs k) (no_weight m ws w)))
     (cases_lt 0 (sum_n ws))
 
-same_shares : (m : ℕ) (ws : List ℕ) → largest_shares m ws ≡ handed m ws
+pub same_shares : (m : ℕ) (ws : List ℕ) → largest_shares m ws ≡ handed m ws
 same_shares m ws =
     let l = length-map-range_with_len (largest_share m ws) 0 (length ws) in
     ext_get_or 0 (largest_shares m ws) (handed m ws) (l ∙ sym (handed_splits.len m ws)) (λ k h. largest_at m ws k (omega arith) ∙ sym (handed_at m ws k (omega arith)))
@@ -141,50 +141,3 @@ largest_splits = splits_same largest_shares handed same_shares handed_splits
 
 pub largest_lawful : Lawful largest_remainder
 largest_lawful = lawful largest_shares largest_splits
-
--- What the rule means
-
-one_or_none : (b : Bool) → (◌≡◌ {A = ℕ} (cond b 1 0) 0) ⊎ (◌≡◌ {A = ℕ} (cond b 1 0) 1)
-one_or_none true = inr refl
-one_or_none false = inl refl
-
-floor_or_more : (m : ℕ) (ws : List ℕ) (k : ℕ) → k < length ws → (slice_index (largest_shares m ws) k ≡ slice_index (floors m ws) k) ⊎ (slice_index (largest_shares m ws) k ≡ slice_index (floors m ws) k + 1)
-floor_or_more m ws k h =
-    let e = largest_at m ws k h in
-    ⊎_elim (λ z. inl (omega arith)) (λ o. inr (omega arith)) (one_or_none (nat_lt (rank (rests m ws) k) (leftover m ws)))
-
-served_first : (m : ℕ) (ws : List ℕ) (j k : ℕ) → slice_index (largest_shares m ws) j ≡ slice_index (floors m ws) j + 1 → slice_index (largest_shares m ws) k ≡ slice_index (floors m ws) k → before (rests m ws) j k ≡ true
-served_first m ws j k p u =
-    let at : (i : ℕ) → slice_index (handed m ws) i ≡ get_or (largest_shares m ws) i 0 = λ i. ap (λ (xs : List ℕ). slice_index xs i) (sym (same_shares m ws)) in
-    ⊎_elim
-    (λ h. before_from (rests m ws) j k (give_order (leftover m ws) (sum_n ws) (rests m ws) (floors m ws) (enough m ws h) j k (at j ∙ p) (at k ∙ u)))
-    (λ z. let e = ap (λ (xs : List ℕ). slice_index xs j) (no_weight m ws (omega arith)) in absurd (not-suc-le-zero {n = 0} (omega (arith, at j))))
-    (cases_lt 0 (sum_n ws))
-
-serves : (n : ℤ) (ws : List ℕ) (ps : List ℤ) → ((k : ℕ) → k < length ws → slice_index_or ps k (pos 0) ≡ slice_index_or (largest_remainder n ws) k (pos 0)) → Serves n ws ps
-serves n ws ps same =
-    let m = unsigned_abs n in
-    let b = below_zero n in
-    let xs = largest_shares m ws in
-    let at : (k : ℕ) → k < length ws → slice_index_or ps k (pos 0) ≡ signed b (slice_index xs k) = λ k h. same k h ∙ get_or_signed b xs k in
-    record {
-      each = λ k h. ⊎_elim (λ e. inl (at k h ∙ ap (signed b) e)) (λ e. inr (at k h ∙ ap (signed b) e)) (floor_or_more m ws k h);
-      order = λ j k hj hk p u. served_first m ws j k (signed_same b _ _ (sym (at j hj) ∙ p)) (signed_same b _ _ (sym (at k hk) ∙ u));
-    }
-
--- a page of the rule's parts serves the largest remainders
-pub serves_page : (n : ℤ) (ws : List ℕ) (ps : List ℤ) → ps ≡ page (largest_remainder n ws) → Serves n ws ps
-serves_page n ws ps e = serves n ws ps (λ k h. ap (λ (xs : List ℤ). get_or xs k (pos 0)) e ∙ page-inside (largest_remainder n ws) k (omega (arith, largest_lawful.len n ws)))
-
--- The steps of the loops
-
--- one party more in the count of those before party k
-pub rank_more : (rs : List ℕ) (k j n : ℕ) → n ≡ sum_n (map (λ i. cond (before rs i k) 1 0) (range_with_len 0 j)) + cond (before rs j k) 1 0 → n ≡ sum_n (map (λ i. cond (before rs i k) 1 0) (range_with_len 0 (j + 1)))
-rank_more rs k j n e = e ∙ sym (tally_more (ahead_of rs k) j)
-
--- floors with the halers left over are the rule's shares
-pub allotted : (m : ℕ) (ws qs xs : List ℕ) (l : ℕ) → 0 < sum_n ws → qs ≡ floors m ws → l ≡ m - sum_n qs → length xs ≡ length ws → ((k : ℕ) → k < length ws → slice_index xs k ≡ slice_index qs k + cond (nat_lt (rank (rests m ws) k) l) 1 0) → xs ≡ largest_shares m ws
-allotted m ws qs xs l p eq el len h =
-    let e : l ≡ leftover m ws = el ∙ ap (λ (ys : List ℕ). m - sum_n ys) eq ∙ sym (leftover_is m ws p) in
-    fill_by_all (largest_share m ws) xs (length ws) 0 len
-    (λ k b. h k b ∙ ap (λ (ys : List ℕ). slice_index ys k + cond (nat_lt (rank (rests m ws) k) l) 1 0) eq ∙ ap (λ n. slice_index (floors m ws) k + cond (nat_lt (rank (rests m ws) k) n) 1 0) e)

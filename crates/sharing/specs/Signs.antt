@@ -1,18 +1,13 @@
 -- A rule on magnitudes, with the sign restored: what it keeps of magnitudes gives the laws. Assumes nothing.
-use Rattle.std.specs.Prelude.{◌≡◌, ℕ, zero, suc, ◌+◌, ◌*◌, ◌<◌, ◌≤◌, Bool, true, false, List, [], ◌∷◌, map, length, replicate, ℤ, pos, negsuc, ◌+ℤ◌, ◌-ℤ◌, ◌*ℤ◌, int_lt, slice_index, slice_index_or, unsigned_abs, refl}
-use Rattle.std.proofs.Common.{arith, ⊎_elim, sym, ap, subst, ◌∙◌}
-use Rattle.std.proofs.lemmas.List.{ext_get_or, get_or-replicate, length-map, length-replicate}
+use Rattle.std.specs.Prelude.{◌≡◌, ℕ, zero, suc, ◌+◌, ◌*◌, ◌<◌, Bool, true, false, List, [], ◌∷◌, map, length, ℤ, pos, negsuc, ◌+ℤ◌, ◌-ℤ◌, ◌*ℤ◌, slice_index, slice_index_or, unsigned_abs, refl}
+use Rattle.std.proofs.Common.{arith, sym, ap, subst, ◌∙◌}
+use Rattle.std.proofs.lemmas.List.{length-map}
 use Rattle.std.proofs.lemmas.Int.{ints}
-use Rattle.std.proofs.lemmas.Bool.{le-ltb, cases_lt}
-use Rattle.units.specs.Sums.{sum_n, sum_z, page}
+use Rattle.units.specs.Sums.{sum_n, sum_z}
 use Rattle.sharing.specs.Laws.{Lawful}
 use Rattle.sharing.specs.Rules.{signed, below_zero, by_magnitude}
 
 -- The sign
-
-pub sign_is : (n : ℤ) → int_lt n (pos 0) ≡ below_zero n
-sign_is (pos n) = le-ltb n 0 (omega arith)
-sign_is (negsuc n) = refl
 
 pub signed_zero : (b : Bool) → signed b 0 ≡ pos 0
 signed_zero false = refl
@@ -25,11 +20,6 @@ signed_sum true x y = omega (arith, ints)
 signed_back : (n : ℤ) → signed (below_zero n) (unsigned_abs n) ≡ n
 signed_back (pos n) = refl
 signed_back (negsuc n) = refl
-
--- a sign hides no magnitude
-pub signed_same : (b : Bool) (x y : ℕ) → signed b x ≡ signed b y → x ≡ y
-signed_same false x y e = omega (arith, ints)
-signed_same true x y e = omega (arith, ints)
 
 sum_z_signed : (b : Bool) (xs : List ℕ) → sum_z (map (signed b) xs) ≡ signed b (sum_n xs)
 sum_z_signed b [] = sym (signed_zero b)
@@ -67,32 +57,9 @@ lawful f s = record {
   none = λ n ws k e. get_or_signed (below_zero n) (f (unsigned_abs n) ws) k ∙ ap (signed (below_zero n)) (s.none (unsigned_abs n) ws k e) ∙ signed_zero (below_zero n);
 }
 
--- Sums of magnitudes
-
--- no number is above the sum
-pub at_most_sum : (xs : List ℕ) (k : ℕ) → slice_index xs k ≤ sum_n xs
-at_most_sum [] k = omega arith
-at_most_sum (x ∷ xs) zero = omega arith
-at_most_sum (x ∷ xs) (suc k) = omega (arith, at_most_sum xs k)
-
 pub no_sum : (xs : List ℕ) → ((k : ℕ) → slice_index xs k ≡ 0) → sum_n xs ≡ 0
 no_sum [] h = refl
 no_sum (x ∷ xs) h = omega (arith, h 0, no_sum xs (λ k. h (suc k)))
-
--- a list of n numbers, each 0
-pub all_zero : (xs : List ℕ) (n : ℕ) → length xs ≡ n → ((k : ℕ) → slice_index xs k ≡ 0) → xs ≡ replicate n 0
-all_zero xs n l h = ext_get_or 0 xs (replicate n 0) (l ∙ sym (length-replicate n 0)) (λ k b. h k ∙ sym (get_or-replicate n k 0 0 (omega arith)))
-
--- the shares add up to no more than is shared
-pub splits_within : (f : ℕ → List ℕ → List ℕ) → Splits f → (m : ℕ) (ws : List ℕ) → sum_n (f m ws) ≤ m
-splits_within f s m ws = ⊎_elim
-    (λ p. omega (arith, s.whole m ws p))
-    (λ z. omega (arith, no_sum (f m ws) (λ k. s.none m ws k (omega arith))))
-    (cases_lt 0 (sum_n ws))
-
--- the shares of the magnitude, with the sign restored
-pub restored : (f : ℕ → List ℕ → List ℕ) (n : ℤ) (m : ℕ) (b : Bool) (us ws : List ℕ) → b ≡ below_zero n → m ≡ unsigned_abs n → us ≡ ws → page (map (signed b) (f m us)) ≡ page (by_magnitude f n ws)
-restored f n m b us ws hb hm hu = cc
 
 -- two rules with the same shares keep the same laws
 pub splits_same : (f g : ℕ → List ℕ → List ℕ) → ((m : ℕ) (ws : List ℕ) → f m ws ≡ g m ws) → Splits g → Splits f

@@ -2,7 +2,8 @@ use Rattle.std.proofs.Common.{sym, ◌∙◌, arith}
 use lib.ListN.{length-map}
 use Rattle.units.proofs.Summing.{page_is}
 use Rattle.sharing.specs.Rules.{signed}
-use Rattle.sharing.specs.Signs.{at_most_sum, get_or_signed}
+use Rattle.sharing.specs.Signs.{get_or_signed}
+use Rattle.sharing.proofs.Signs.{at_most_sum}
 use Rattle.sharing.proofs.restore.Goals as goal
 
 pub with_sign-requires : goal.with_sign-requires

@@ -2,7 +2,7 @@ use Rattle.std.proofs.Common.{ℕ, ◌+◌, ◌-◌, cond, ltb, List, get_or, ap
 use Rattle.units.specs.Sums.{sum_n}
 use Rattle.sharing.specs.Rules.{rank}
 use Rattle.sharing.specs.Leftovers.{floors_sum}
-use Rattle.sharing.specs.Ranks.{allotted}
+use Rattle.sharing.proofs.Ranks.{allotted}
 use Rattle.sharing.proofs.largest_remainder.allot.Goals as goal
 
 pub sum-requires : goal.sum-requires

@@ -2,7 +2,7 @@ use Rattle.std.proofs.Common.{◌*◌, ◌/◌, ◌%◌, get_or, sym, ap, ◌∙
 use lib.ListN.{length-map}
 use Rattle.std.proofs.lemmas.List.{ext_get_or, get_or-map}
 use Rattle.units.specs.Sums.{sum_n}
-use Rattle.sharing.specs.Signs.{at_most_sum}
+use Rattle.sharing.proofs.Signs.{at_most_sum}
 use Rattle.sharing.proofs.largest_remainder.divide.Goals as goal
 
 pub floor-requires : goal.floor-requires

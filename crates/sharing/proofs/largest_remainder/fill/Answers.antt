@@ -6,9 +6,9 @@ use Rattle.std.proofs.lemmas.Int.{ints, to_z-of_z}
 use Rattle.units.specs.Sums.{page}
 use Rattle.sharing.specs.Limits.{magnitudes, Light}
 use Rattle.sharing.specs.Rules.{largest_shares, largest_remainder}
-use Rattle.sharing.specs.Ranks.{serves_page}
+use Rattle.sharing.proofs.Ranks.{serves_page}
 use Rattle.sharing.proofs.Ranges.{light}
-use Rattle.sharing.specs.Signs.{restored, sign_is}
+use Rattle.sharing.proofs.Signs.{restored, sign_is}
 use Rattle.sharing.proofs.largest_remainder.fill.Goals as goal
 
 pub fill_by-requires : goal.fill_by-requires

@@ -1,7 +1,7 @@
 use Rattle.std.proofs.Common.{◌≡◌, ℕ, cond, sym, ◌∙◌, arith}
 use Rattle.std.proofs.lemmas.Bool.{cond-true, cond-false}
 use Rattle.sharing.specs.Rules.{before}
-use Rattle.sharing.specs.Ranks.{rank_more}
+use Rattle.sharing.proofs.Ranks.{rank_more}
 use Rattle.sharing.proofs.largest_remainder.place_in_line.Goals as goal
 use Rattle.sharing.proofs.largest_remainder.place_in_line.Goals.{then-comes_before, else-comes_before}
 

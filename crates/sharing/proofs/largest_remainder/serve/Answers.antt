@@ -1,5 +1,5 @@
 use Rattle.std.proofs.Common.{arith}
-use Rattle.sharing.specs.Signs.{at_most_sum}
+use Rattle.sharing.proofs.Signs.{at_most_sum}
 use Rattle.sharing.proofs.largest_remainder.serve.Goals as goal
 
 pub overflow_add-shares : goal.overflow_add-shares

@@ -3,7 +3,7 @@ use lib.ListN.{length-replicate}
 use Rattle.std.proofs.lemmas.List.{length-take-le}
 use Rattle.sharing.proofs.Ranges.{total-within}
 use Rattle.sharing.specs.Ranks.{largest_splits}
-use Rattle.sharing.specs.Signs.{all_zero}
+use Rattle.sharing.proofs.Signs.{all_zero}
 use Rattle.sharing.proofs.largest_remainder.split.Goals as goal
 
 pub sum-total-requires : goal.sum-total-requires

@@ -6,7 +6,7 @@ use Rattle.std.proofs.lemmas.Int.{ints, to_z-of_z}
 use Rattle.sharing.specs.Limits.{magnitudes, Light}
 use Rattle.sharing.specs.Rules.{running_shares}
 use Rattle.sharing.proofs.Ranges.{light}
-use Rattle.sharing.specs.Signs.{restored, sign_is}
+use Rattle.sharing.proofs.Signs.{restored, sign_is}
 use Rattle.sharing.proofs.running.fill.Goals as goal
 
 pub fill_by-requires : goal.fill_by-requires

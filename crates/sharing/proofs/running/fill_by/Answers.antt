@@ -2,7 +2,7 @@ use Rattle.std.proofs.Common.{ℕ, List, map, length, ap, ◌∙◌, arith}
 use Rattle.units.specs.Sums.{sum_n, page}
 use Rattle.sharing.specs.Rules.{signed, running_shares}
 use Rattle.sharing.specs.Runs.{running_splits}
-use Rattle.sharing.specs.Signs.{splits_within}
+use Rattle.sharing.proofs.Signs.{splits_within}
 use Rattle.sharing.proofs.running.fill_by.Goals as goal
 
 pub restore-requires : goal.restore-requires

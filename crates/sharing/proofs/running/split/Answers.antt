@@ -2,7 +2,7 @@ use Rattle.std.proofs.Common.{◌≡◌, length, sym, ap, ◌∙◌, arith}
 use lib.ListN.{length-replicate}
 use Rattle.sharing.proofs.Ranges.{total-within}
 use Rattle.sharing.specs.Runs.{running_splits}
-use Rattle.sharing.specs.Signs.{all_zero}
+use Rattle.sharing.proofs.Signs.{all_zero}
 use Rattle.sharing.proofs.running.split.Goals as goal
 
 pub sum-total-requires : goal.sum-total-requires
