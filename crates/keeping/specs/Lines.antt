@@ -10,7 +10,7 @@ use Rattle.std.specs.Prelude.{◌≡◌, ℕ, ◌+◌, ◌<◌, ◌≤◌, min, 
 use Rattle.journal.specs.Lines.{Divided, Filled}
 use Rattle.keeping.specs.declared.input.Line.{Line}
 use Rattle.keeping.specs.declared.input.Input.{Input}
-use Rattle.keeping.specs.declared.journal.Journal.{Journal}
+use Rattle.keeping.specs.declared.keeper.Journal.{Journal}
 use Rattle.keeping.specs.View.{View, view}
 use Rattle.keeping.specs.Answered.{LineText}
 

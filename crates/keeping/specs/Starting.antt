@@ -7,7 +7,7 @@ use Rattle.hourly.specs.declared.plain.PlainRecord.{PlainRecord}
 use Rattle.entries.specs.declared.refusal.Refusal.TheVariants.{WrongSize}
 use Rattle.book.specs.declared.open.Returned.{Returned}
 use Rattle.book.specs.Opening.{openable, sizes_of}
-use Rattle.keeping.specs.declared.journal.Journal.{Journal}
+use Rattle.keeping.specs.declared.keeper.Journal.{Journal}
 use Rattle.keeping.specs.View.{started, view}
 
 -- a journal without a book exactly where a book of the limits could be opened on the pages; else 11. The pages are as they were

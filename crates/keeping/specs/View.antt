@@ -12,9 +12,9 @@ use Rattle.rules.specs.declared.choice.ChosenSharing.{ChosenSharing}
 use Rattle.rules.specs.declared.choice.Rules.{Rules}
 use Rattle.book.specs.declared.book.Book.{Book}
 use Rattle.book.specs.Held.{Held, held}
-use Rattle.keeping.specs.declared.journal.Journal.{Journal}
-use Rattle.keeping.specs.declared.journal.Stage.{Stage}
-use Rattle.keeping.specs.declared.journal.Stage.TheVariants.{Empty, Opened}
+use Rattle.keeping.specs.declared.keeper.Journal.{Journal}
+use Rattle.keeping.specs.declared.keeper.Stage.{Stage}
+use Rattle.keeping.specs.declared.keeper.Stage.TheVariants.{Empty, Opened}
 
 -- no book yet, and what lies on the pages for one; or the rules of a book and what it holds
 pub data Kept : Type 0 where

@@ -4,7 +4,7 @@ ghost use Rattle.keeping.specs.View.{View, view};
 ghost use Rattle.journal.specs.Lines.{Filled};
 ghost use Rattle.keeping.specs.Lines.{kept, Holds, Outcome, Whole, Ran, Runs, Takes, Finishes};
 
-use crate::journal::Journal;
+use crate::keeper::Journal;
 use answers::ANSWER_BYTES;
 
 // The most bytes that are kept of a line: one more than a line may have.

@@ -2,12 +2,12 @@
 #![tactic(auto)]
 
 mod input;
-mod journal;
+mod keeper;
 mod opening;
 mod refusal;
 #[cfg(test)]
 mod tests;
 
 pub use input::Input;
-pub use journal::Journal;
+pub use keeper::Journal;
 pub use refusal::Refusal;

@@ -8,7 +8,7 @@ ghost use Rattle.keeping.specs.Entered.{after_in, answer_in, book_after, book_an
 ghost use Rattle.keeping.specs.Answered.{Answered, Entered, LineCall};
 
 use super::{asked, open_on};
-use crate::journal::{Journal, Stage};
+use crate::keeper::{Journal, Stage};
 use crate::refusal::Refusal;
 use answers::Answer;
 use book::book::Book;

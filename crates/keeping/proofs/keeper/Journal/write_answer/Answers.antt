@@ -2,7 +2,7 @@ use Rattle.std.proofs.Common.{rules}
 use Rattle.answers.specs.Writing.{Writes}
 use Rattle.keeping.specs.View.{view}
 use Rattle.keeping.proofs.Calling.{called}
-use Rattle.keeping.proofs.journal.Journal.write_answer.Goals as goal
+use Rattle.keeping.proofs.keeper.Journal.write_answer.Goals as goal
 
 pub returns : goal.returns
 returns c =
