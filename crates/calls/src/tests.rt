@@ -5,6 +5,7 @@ use book::pages::Pages;
 use entries::reply::Reply;
 use hourly::plain::{PlainCell, PlainDeliveries, PlainRecord};
 use pricing::ladder::Ladder;
+use refusals::Tells;
 use sharing::running::Running;
 use std::test::Fail;
 

@@ -10,6 +10,7 @@ mod tests {
     use pricing::ladder::Ladder;
     use pricing::price::Price;
     use pricing::regulating::Regulating;
+    use refusals::Tells;
     use sharing::running::Running;
     use sheet::balanced::Balanced;
     use sheet::settle_hour;

@@ -1,14 +1,11 @@
 -- What a refusal of the book tells: its number and its place. Assumes nothing.
 --
 --   told r     number and place of the refusal r
-use Rattle.std.specs.Prelude.{ℕ, ◌+◌, ◌*◌, ℤ, pos}
+use Rattle.std.specs.Prelude.{◌+◌, ◌*◌, pos}
+use Rattle.refusals.specs.declared.Told.{Told}
 use Rattle.entries.specs.declared.refusal.Refusal.{Refusal}
 use Rattle.entries.specs.declared.refusal.Refusal.TheVariants.{UnknownParty, UnknownDay, HourOrRange, OutOfRange, SellerIsBuyer, NotAdmitted, KwhBeyond, CashBeyond, NotCovered, ReadingMissing, WrongSize}
 use Rattle.entries.specs.States.{number_of}
-
-pub record Told : Type 0 where
-  pub number : ℕ
-  pub place : ℤ
 
 -- the table of refusals: each case with its number and its place
 abbrev pub told : Refusal → Told

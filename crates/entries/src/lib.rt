@@ -15,6 +15,7 @@ mod tests;
 use entry::{DayState, Entry};
 pub use fields::check_fields;
 use refusal::Refusal;
+use refusals::{Tells, Told};
 
 impl DayState {
     pub fn number(&self) -> u8
@@ -30,41 +31,26 @@ impl DayState {
     }
 }
 
-impl Refusal {
-    pub fn number(&self) -> u8
-        ensures { result ≡ (told self.now).number }
-    {
-        match self {
-            Refusal::UnknownParty { party: _ } => 1,
-            Refusal::UnknownDay { day: _ } => 2,
-            Refusal::HourOrRange { from: _ } => 3,
-            Refusal::OutOfRange { given: _ } => 4,
-            Refusal::SellerIsBuyer { party: _ } => 5,
-            Refusal::NotAdmitted { state: _ } => 6,
-            Refusal::KwhBeyond { hour: _ } => 7,
-            Refusal::CashBeyond { party: _ } => 8,
-            Refusal::NotCovered { party: _ } => 9,
-            Refusal::ReadingMissing { hour: _, party: _ } => 10,
-            Refusal::WrongSize => 11,
-        }
-    }
+impl Tells for Refusal {
+    ghost told = { told };
 
-    pub fn place(&self) -> i64
-        ensures { result ≡ (told self.now).place }
-    {
-        match self {
-            Refusal::UnknownParty { party } => *party,
-            Refusal::UnknownDay { day } => *day,
-            Refusal::HourOrRange { from } => *from,
-            Refusal::OutOfRange { given } => *given,
-            Refusal::SellerIsBuyer { party } => *party,
-            Refusal::NotAdmitted { state } => state.number() as i64,
-            Refusal::KwhBeyond { hour } => *hour,
-            Refusal::CashBeyond { party } => *party,
-            Refusal::NotCovered { party } => *party,
-            Refusal::ReadingMissing { hour, party } => *hour as i64 * 100 + *party as i64,
-            Refusal::WrongSize => 0,
-        }
+    fn told(&self) -> Told {
+        let (number, place) = match self {
+            Refusal::UnknownParty { party } => (1, *party),
+            Refusal::UnknownDay { day } => (2, *day),
+            Refusal::HourOrRange { from } => (3, *from),
+            Refusal::OutOfRange { given } => (4, *given),
+            Refusal::SellerIsBuyer { party } => (5, *party),
+            Refusal::NotAdmitted { state } => (6, i64::from(state.number())),
+            Refusal::KwhBeyond { hour } => (7, *hour),
+            Refusal::CashBeyond { party } => (8, *party),
+            Refusal::NotCovered { party } => (9, *party),
+            Refusal::ReadingMissing { hour, party } => {
+                (10, i64::from(*hour) * 100 + i64::from(*party))
+            }
+            Refusal::WrongSize => (11, 0),
+        };
+        Told { number, place }
     }
 }
 

@@ -2,6 +2,7 @@
 use super::entry::{DayState, Entry, Sizes};
 use super::refusal::Refusal;
 use super::{check_fields, next_state};
+use refusals::Tells;
 
 fn told(number: u8, place: i64, answer: Option<Refusal>) -> bool {
     match answer {

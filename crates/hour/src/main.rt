@@ -7,6 +7,7 @@ use pricing::Pricing;
 use pricing::ladder::Ladder;
 use pricing::price::Price;
 use pricing::regulating::Regulating;
+use refusals::Tells;
 use sharing::Sharing;
 use sharing::largest_remainder::LargestRemainder;
 use sharing::running::Running;

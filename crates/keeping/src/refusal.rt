@@ -4,6 +4,7 @@ ghost use Rattle.keeping.specs.Told.{told};
 ghost use Rattle.keeping.specs.declared.refusal.Refusal.TheVariants.{Words, Book};
 
 use entries::refusal::Refusal as BookRefusal;
+use refusals::Tells;
 use words::{Told, WordFault};
 
 #[derive(Clone, Copy)]

@@ -2,6 +2,7 @@
 use super::{Input, Journal};
 use book::pages::Pages;
 use hourly::plain::{PlainCell, PlainDeliveries, PlainRecord};
+use refusals::Tells;
 use std::test::Fail;
 
 // Numbers that a book must clear.

@@ -1,5 +1,6 @@
 -- What a pricing rule is: a map from system imbalance and hour record to prices, its law, and how it answers. Assumes nothing.
-use Rattle.std.specs.Prelude.{◌≡◌, ℕ, ◌≤◌, true, cond, ℤ, Ok, Err, Result, nat_le, unsigned_abs}
+use Rattle.std.specs.Prelude.{◌≡◌, ◌≤◌, true, cond, ℤ, Ok, Err, Result, nat_le, unsigned_abs}
+use Rattle.refusals.specs.declared.Told.{Told}
 use Rattle.hourly.specs.Records.{HourFigures, in_bounds}
 use Rattle.pricing.specs.declared.prices.Prices.{Prices}
 use Rattle.pricing.specs.declared.prices.PricingRefusal.{PricingRefusal}
@@ -22,9 +23,5 @@ abbrev pub answered : PriceMap → ℤ → HourFigures → Result Prices Pricing
 answered f si h = cond (nat_le (unsigned_abs si) 10000000000) (Ok (f si h)) (Err (SystemImbalance si))
 
 -- number and place of a refusal
-pub record Told : Type 0 where
-  pub number : ℕ
-  pub place : ℤ
-
 abbrev pub told : PricingRefusal → Told
 told (SystemImbalance kwh) = record { number = 4; place = kwh }

@@ -15,6 +15,7 @@ pub mod regulating;
 use hourly::record::HourRecord;
 use price::Price;
 use prices::{Prices, PricingRefusal};
+use refusals::{Tells, Told};
 
 // A pricing rule. Equal inputs get equal prices, since the answer is the map's, and answering alters nothing, since the rule is only lent.
 pub trait Pricing {
@@ -26,20 +27,15 @@ pub trait Pricing {
     ghost bounded: { (s : Self) → PricedWithin (map s) };
 }
 
-impl PricingRefusal {
-    pub fn number(&self) -> u8
-        ensures { result ≡ (told self.now).number }
-    {
-        match self {
-            PricingRefusal::SystemImbalance { kwh: _ } => 4,
-        }
-    }
+impl Tells for PricingRefusal {
+    ghost told = { told };
 
-    pub fn place(&self) -> i64
-        ensures { result ≡ (told self.now).place }
-    {
+    fn told(&self) -> Told {
         match self {
-            PricingRefusal::SystemImbalance { kwh } => *kwh,
+            PricingRefusal::SystemImbalance { kwh } => Told {
+                number: 4,
+                place: *kwh,
+            },
         }
     }
 }

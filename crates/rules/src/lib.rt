@@ -107,6 +107,7 @@ pub fn choose(pricing: i64, default: i64, sharing: i64) -> Result<Rules, Refusal
 #[cfg(test)]
 mod tests {
     use super::*;
+    use refusals::Tells;
 
     // The place of the refusal, if the numbers pick no rules.
     fn refused(pricing: i64, default: i64, sharing: i64) -> Option<i64> {

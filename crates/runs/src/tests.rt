@@ -5,6 +5,7 @@ use entries::entry::Entry;
 use entries::reply::Reply;
 use hourly::plain::{PlainCell, PlainDeliveries, PlainRecord};
 use pricing::ladder::Ladder;
+use refusals::Tells;
 use sharing::running::Running;
 
 // Numbers that a book must clear.

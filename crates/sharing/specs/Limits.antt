@@ -8,6 +8,7 @@
 --   Light ws            the same of weights as natural numbers
 --   Admits n ws r       r admits what is in range, and otherwise tells why not
 use Rattle.std.specs.Prelude.{◌≡◌, ℕ, ◌<◌, ◌≤◌, Bool, cond, ◌&&◌, List, [], ◌∷◌, map, length, ℤ, pos, Some, None, Ok, Err, Option, Result, int_le, nat_lt, slice_index, slice_index_or, unsigned_abs}
+use Rattle.refusals.specs.declared.Told.{Told}
 use Rattle.units.specs.Sums.{page}
 use Rattle.sharing.specs.declared.refusal.SharingRefusal.{SharingRefusal}
 use Rattle.sharing.specs.declared.refusal.SharingRefusal.TheVariants.{Remainder, Count, Weight}
@@ -24,10 +25,6 @@ weight_refusal (w ∷ ws) = cond (in_range w) (weight_refusal ws) (Some (Weight 
 -- the first of three reasons that holds: the remainder beyond ±600,000,000,000, over 20 weights, a weight out of range
 abbrev pub refusal : ℤ → List ℤ → Option SharingRefusal
 refusal n ws = cond (nat_lt 600000000000 (unsigned_abs n)) (Some (Remainder n)) (cond (nat_lt 20 (length ws)) (Some (Count (pos (length ws)))) (weight_refusal ws))
-
-pub record Told : Type 0 where
-  pub number : ℕ
-  pub place : ℤ
 
 -- a field out of range is refused with 4; the place is the number given, or the count of the weights
 abbrev pub told : SharingRefusal → Told

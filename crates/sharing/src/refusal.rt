@@ -1,6 +1,7 @@
 // Why a sharing rule refuses (docs/RULES.md, "Refusals").
-ghost use Rattle.std.specs.Prelude.{◌≡◌};
 ghost use Rattle.sharing.specs.Limits.{told};
+
+use refusals::{Tells, Told};
 
 #[derive(Clone, Copy, PartialEq, Eq, Debug)]
 pub enum SharingRefusal {
@@ -12,24 +13,15 @@ pub enum SharingRefusal {
     Weight { kwh: i64 },
 }
 
-impl SharingRefusal {
-    pub fn number(&self) -> u8
-        ensures { result ≡ (told self.now).number }
-    {
-        match self {
-            SharingRefusal::Remainder { .. }
-            | SharingRefusal::Count { .. }
-            | SharingRefusal::Weight { .. } => 4,
-        }
-    }
+impl Tells for SharingRefusal {
+    ghost told = { told };
 
-    pub fn place(&self) -> i64
-        ensures { result ≡ (told self.now).place }
-    {
-        match self {
+    fn told(&self) -> Told {
+        let place = match self {
             SharingRefusal::Remainder { halers } => *halers,
             SharingRefusal::Count { weights } => *weights,
             SharingRefusal::Weight { kwh } => *kwh,
-        }
+        };
+        Told { number: 4, place }
     }
 }

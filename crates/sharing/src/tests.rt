@@ -3,6 +3,7 @@ use super::Sharing;
 use super::largest_remainder::LargestRemainder;
 use super::refusal::SharingRefusal;
 use super::running::Running;
+use refusals::Tells;
 use std::process::Abort;
 
 // A page that no answer leaves so.

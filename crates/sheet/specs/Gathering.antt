@@ -1,5 +1,6 @@
 -- Gathering a sheet from the cells of an hour. Assumes nothing.
 use Rattle.std.specs.Prelude.{ℕ, ◌+◌, ◌-◌, ◌*◌, Bool, cond, ◌&&◌, List, [], ◌∷◌, ◌++◌, map, length, take, replicate, ℤ, pos, is_some, Some, None, Option, int_le, nat_le, unsigned_abs}
+use Rattle.refusals.specs.declared.Told.{Told}
 use Rattle.std.specs.Option.{unwrap_or}
 use Rattle.hourly.specs.Cells.{CellFigures}
 use Rattle.hourly.specs.Records.{no_deliveries, record_figures}
@@ -11,10 +12,6 @@ use Rattle.sheet.specs.Bounds.{zero_row}
 use Rattle.sheet.specs.Evaluation.{HourFacts}
 
 -- number and place of a refusal
-pub record Told : Type 0 where
-  pub number : ℕ
-  pub place : ℤ
-
 abbrev pub told : SheetRefusal → Told
 told Parties = record { number = 11; place = pos 0 }
 told (Day day) = record { number = 2; place = day }

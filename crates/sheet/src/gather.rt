@@ -11,28 +11,21 @@ use hourly::cell::Cell;
 use hourly::deliveries::Deliveries;
 use hourly::plain::{PlainCell, PlainRecord};
 use hourly::record::HourRecord;
+use refusals::{Tells, Told};
 
-impl SheetRefusal {
-    pub fn number(&self) -> u8
-        ensures { result ≡ (told self.now).number }
-    {
-        match self {
-            SheetRefusal::Parties => 11,
-            SheetRefusal::Day { day: _ } => 2,
-            SheetRefusal::Hour { hour: _ } => 3,
-            SheetRefusal::Reading { hour: _, party: _ } => 10,
-        }
-    }
+impl Tells for SheetRefusal {
+    ghost told = { told };
 
-    pub fn place(&self) -> i64
-        ensures { result ≡ (told self.now).place }
-    {
-        match self {
-            SheetRefusal::Parties => 0,
-            SheetRefusal::Day { day } => *day,
-            SheetRefusal::Hour { hour } => *hour,
-            SheetRefusal::Reading { hour, party } => i64::from(*hour) * 100 + i64::from(*party),
-        }
+    fn told(&self) -> Told {
+        let (number, place) = match self {
+            SheetRefusal::Parties => (11, 0),
+            SheetRefusal::Day { day } => (2, *day),
+            SheetRefusal::Hour { hour } => (3, *hour),
+            SheetRefusal::Reading { hour, party } => {
+                (10, i64::from(*hour) * 100 + i64::from(*party))
+            }
+        };
+        Told { number, place }
     }
 }
 
