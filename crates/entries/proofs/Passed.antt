@@ -1,5 +1,5 @@
 -- An entry whose field checks all pass has its fields in range; and the first refusal of two lists of checks one after the other.
-use Rattle.std.proofs.Common.{◌≡◌, ℕ, ◌%◌, ◌≤◌, Bool, true, false, cond, not, ◌&&◌, eqb, List, [], ◌∷◌, ◌++◌, ℤ, pos, negsuc, neg_ℤ, nat_abs, ◌≤ℤ◌, Some, None, Option, sym, refl, ◌∙◌, ⊎_elim, arith}
+use Rattle.std.proofs.Common.{◌≡◌, ℕ, ◌%◌, ◌≤◌, Bool, true, false, cond, not, ◌&&◌, eqb, List, [], ◌∷◌, ◌++◌, ℤ, pos, negsuc, neg_ℤ, nat_abs, ◌≤ℤ◌, Some, None, Ok, Err, Option, Result, sym, refl, ◌∙◌, ⊎_elim, arith}
 use Rattle.std.proofs.lemmas.Int.{ints}
 use lib.Signed.{le_z}
 use Rattle.std.proofs.lemmas.Bool.{and_parts, both_ways, cond-true, cond-false, cases_Bool, eqb-true, eqb-false}
@@ -7,13 +7,16 @@ use Rattle.entries.specs.declared.entry.Entry.{Entry}
 use Rattle.entries.specs.declared.entry.Entry.TheVariants.{Deposit, Withdraw, Register, Market, Close, Regulate, Meter, Evaluate}
 use Rattle.entries.specs.declared.entry.Sizes.{Sizes}
 use Rattle.entries.specs.declared.refusal.Refusal.{Refusal}
-use Rattle.entries.specs.Fields.{Check, between, field_checks, first_of, market_kwh, market_price, regulating_kwh, within}
+use Rattle.entries.specs.Fields.{Check, between, checked, field_checks, first_of, verdict, market_kwh, market_price, regulating_kwh, within}
 use Rattle.entries.specs.States.{same}
 use Rattle.entries.specs.Sane.{Numbered, Ranged, Sane, Traders}
 
 -- a refusal is not none
 some-none : (r : Refusal) → ◌≡◌ {A = Option Refusal} (Some r) None → ⊥
 some-none r h = let z : ◌≡◌ {A = ℕ} 0 1 = cc in omega arith
+
+err-ok : (r : Refusal) → ◌≡◌ {A = Result (Unit {0}) Refusal} (Ok tt) (Err r) → ⊥
+err-ok r h = let z : ◌≡◌ {A = ℕ} 0 1 = cc in omega arith
 
 -- where no check holds, the first does not, nor any after it
 pub passed : (b : Bool) (r : Refusal) (rest : Option Refusal) → cond b (Some r) rest ≡ None → (b ≡ false) × (rest ≡ None)
@@ -24,6 +27,23 @@ passed false r rest h = (refl, h)
 pub later : (cs ds : List Check) → first_of cs ≡ None → first_of (cs ++ ds) ≡ first_of ds
 later [] ds h = refl
 later (c ∷ cs) ds h = let p = passed c.fails c.refusal (first_of cs) h in cond-false c.fails _ _ p.0 ∙ later cs ds p.1
+
+-- the answer of two lists of checks: that of the first list, unless it meets no refusal
+stopped : (b : Bool) (r s : Refusal) (xs ys : Option Refusal) → (verdict xs ≡ Err s → verdict ys ≡ Err s) → verdict (cond b (Some r) xs) ≡ Err s → verdict (cond b (Some r) ys) ≡ Err s
+stopped true r s xs ys f h = h
+stopped false r s xs ys f h = f h
+
+pub stops : (cs ds : List Check) (r : Refusal) → checked cs ≡ Err r → checked (cs ++ ds) ≡ Err r
+stops [] ds r h = absurd (err-ok r h)
+stops (c ∷ cs) ds r h = stopped c.fails c.refusal r (first_of cs) (first_of (cs ++ ds)) (stops cs ds r) h
+
+gone_on : (b : Bool) (r : Refusal) (xs ys zs : Option Refusal) → (verdict xs ≡ Ok tt → verdict ys ≡ verdict zs) → verdict (cond b (Some r) xs) ≡ Ok tt → verdict (cond b (Some r) ys) ≡ verdict zs
+gone_on true r xs ys zs f h = absurd (err-ok r (sym h))
+gone_on false r xs ys zs f h = f h
+
+pub goes_on : (cs ds : List Check) → checked cs ≡ Ok tt → checked (cs ++ ds) ≡ checked ds
+goes_on [] ds h = refl
+goes_on (c ∷ cs) ds h = gone_on c.fails c.refusal (first_of cs) (first_of (cs ++ ds)) (first_of ds) (goes_on cs ds) h
 
 -- not the denial
 passes : (b : Bool) → not b ≡ false → b ≡ true

@@ -2,10 +2,11 @@
 --
 --   Check                  a condition, with the refusal that it gives
 --   first_of cs            the refusal of the first check whose condition holds, if any holds
+--   checked cs             the answer of the checks: that refusal, or that none was met
 --   between a b z          z is a to b
 --   within n z             z is -n to n
 --   field_checks sizes e   the checks of the entry e, in the order of the table of refusals
-use Rattle.std.specs.Prelude.{ℕ, ◌%◌, Bool, cond, not, ◌&&◌, List, [], ◌∷◌, ◌++◌, map, ℤ, pos, neg_ℤ, Some, None, Option, ◌==◌, int_le, unsigned_abs}
+use Rattle.std.specs.Prelude.{ℕ, ◌%◌, Bool, cond, not, ◌&&◌, List, [], ◌∷◌, ◌++◌, map, ℤ, pos, neg_ℤ, Some, None, Ok, Err, Option, Result, ◌==◌, int_le, unsigned_abs}
 use Rattle.entries.specs.declared.entry.Entry.{Entry}
 use Rattle.entries.specs.declared.entry.Entry.TheVariants.{Deposit, Withdraw, Register, Market, Close, Regulate, Meter, Evaluate}
 use Rattle.entries.specs.declared.entry.Sizes.{Sizes}
@@ -22,6 +23,14 @@ pub record Check : Type 0 where
 abbrev pub first_of : List Check → Option Refusal
 first_of [] = None
 first_of (c ∷ cs) = cond c.fails (Some c.refusal) (first_of cs)
+
+-- a refusal, or that nothing refuses
+abbrev pub verdict : Option Refusal → Result (Unit {0}) Refusal
+verdict None = Ok tt
+verdict (Some r) = Err r
+
+abbrev pub checked : List Check → Result (Unit {0}) Refusal
+checked cs = verdict (first_of cs)
 
 -- from the least to the most, both included
 abbrev pub between : ℕ → ℕ → ℤ → Bool

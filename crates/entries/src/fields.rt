@@ -1,6 +1,7 @@
 // The checks of an entry's fields, in the order of the table of refusals.
-ghost use Rattle.std.specs.Prelude.{◌≡◌, ◌&&◌, ◌++◌, map, pos, int_le};
-ghost use Rattle.entries.specs.Fields.{between, day_check, day_of, field_checks, first_of, hour_checks, market_kwh, market_price, regulating_kwh, trader_checks, value_checks};
+ghost use Rattle.std.specs.Prelude.{◌≡◌, not, ◌&&◌, [], ◌∷◌, map, pos, int_le};
+ghost use Rattle.entries.specs.Fields.{between, checked, day_check, day_of, field_checks, hour_check, hour_checks, market_kwh, market_price, parties_of, party_check, range_check, regulating_kwh, trader_checks, traders_check, value_checks};
+ghost use Rattle.entries.specs.declared.refusal.Refusal.TheVariants.{OutOfRange};
 
 use super::entry::{Entry, Sizes};
 use super::refusal::Refusal;
@@ -14,22 +15,17 @@ const MOST_READ: i64 = 499_999;
 // The highest price in CZK/MWh, in magnitude.
 const MOST_PRICE: i64 = 99_999;
 
+// A check that is met by a condition.
+fn require(met: bool, refusal: Refusal) -> Result<(), Refusal>
+    ensures { result ≡ checked (record { fails = not met; refusal = refusal } ∷ []) }
+{
+    if met { Ok(()) } else { Err(refusal) }
+}
+
 fn between(least: i64, most: i64, number: i64) -> bool
     ensures { result ≡ (int_le least number && int_le number most) }
 {
-    least <= number && number <= most
-}
-
-fn known(last: u8, number: i64) -> bool
-    ensures { result ≡ between 1 last number }
-{
-    between(1, last as i64, number)
-}
-
-fn hours(from: i64, to: i64) -> bool
-    ensures { result ≡ (int_le (pos 1) from && int_le from to && int_le to (pos 24)) }
-{
-    1 <= from && from <= to && to <= 24
+    (least..=most).contains(&number)
 }
 
 fn market_kwh(kwh: i64) -> bool
@@ -50,114 +46,127 @@ fn regulating_kwh(kwh: i64) -> bool
     between(-MOST_KWH, MOST_KWH, kwh) && kwh != 0
 }
 
-// Row 5 of the table.
-fn from_traders(entry: &Entry) -> Option<Refusal>
-    ensures { result ≡ first_of (trader_checks entry.now) }
+fn check_party(sizes: &Sizes, party: i64) -> Result<(), Refusal>
+    ensures { result ≡ checked (party_check sizes.now party ∷ []) }
+{
+    let last = i64::from(sizes.parties);
+    require(between(1, last, party), Refusal::UnknownParty { party })
+}
+
+fn check_traders_known(sizes: &Sizes, seller: i64, buyer: i64) -> Result<(), Refusal>
+    ensures { result ≡ checked (party_check sizes.now seller ∷ party_check sizes.now buyer ∷ []) }
+{
+    check_party(sizes, seller)?;
+    check_party(sizes, buyer)
+}
+
+fn check_hour(hour: i64) -> Result<(), Refusal>
+    ensures { result ≡ checked (hour_check hour ∷ []) }
+{
+    require(between(1, 24, hour), Refusal::HourOrRange { from: hour })
+}
+
+fn check_range(from: i64, to: i64) -> Result<(), Refusal>
+    ensures { result ≡ checked (range_check from to ∷ []) }
+{
+    let ranged = 1 <= from && from <= to && to <= 24;
+    require(ranged, Refusal::HourOrRange { from })
+}
+
+fn check_value(in_range: bool, given: i64) -> Result<(), Refusal>
+    ensures { result ≡ checked (record { fails = not in_range; refusal = OutOfRange given } ∷ []) }
+{
+    require(in_range, Refusal::OutOfRange { given })
+}
+
+fn check_apart(seller: i64, buyer: i64) -> Result<(), Refusal>
+    ensures { result ≡ checked (traders_check seller buyer ∷ []) }
+{
+    require(seller != buyer, Refusal::SellerIsBuyer { party: seller })
+}
+
+// Row 1 of the table.
+fn check_parties(sizes: &Sizes, entry: &Entry) -> Result<(), Refusal>
+    ensures { result ≡ checked (map (party_check sizes.now) (parties_of entry.now)) }
 {
     match *entry {
-        Entry::Register { seller, buyer, .. } if seller == buyer => Some(Refusal::SellerIsBuyer {
-            party: seller,
-        }),
-        Entry::Market { seller, buyer, .. } if seller == buyer => Some(Refusal::SellerIsBuyer {
-            party: seller,
-        }),
-        _ => None,
+        Entry::Deposit { party, .. } => check_party(sizes, party),
+        Entry::Withdraw { party, .. } => check_party(sizes, party),
+        Entry::Register { seller, buyer, .. } => check_traders_known(sizes, seller, buyer),
+        Entry::Market { seller, buyer, .. } => check_traders_known(sizes, seller, buyer),
+        Entry::Regulate { party, .. } => check_party(sizes, party),
+        Entry::Meter { party, .. } => check_party(sizes, party),
+        Entry::Close { .. } | Entry::Evaluate { .. } => Ok(()),
     }
 }
 
-// Rows 4 and 5.
-fn from_values(entry: &Entry) -> Option<Refusal>
-    ensures { result ≡ first_of (value_checks entry.now ++ trader_checks entry.now) }
+// Row 2.
+fn check_day(sizes: &Sizes, entry: &Entry) -> Result<(), Refusal>
+    ensures { result ≡ checked (map (day_check sizes.now) (day_of entry.now)) }
 {
-    match *entry {
-        Entry::Deposit { haler, .. } if !between(1, MOST_HALERS, haler) => Some(
-            Refusal::OutOfRange { given: haler },
-        ),
-        Entry::Withdraw { haler, .. } if !between(1, MOST_HALERS, haler) => Some(
-            Refusal::OutOfRange { given: haler },
-        ),
-        Entry::Register { kwh, .. } if !between(1, MOST_KWH, kwh) => Some(Refusal::OutOfRange {
-            given: kwh,
-        }),
-        Entry::Market { kwh, .. } if !market_kwh(kwh) => Some(Refusal::OutOfRange { given: kwh }),
-        Entry::Market { price, .. } if !market_price(price) => Some(Refusal::OutOfRange {
-            given: price,
-        }),
-        Entry::Regulate { kwh, .. } if !regulating_kwh(kwh) => Some(Refusal::OutOfRange {
-            given: kwh,
-        }),
-        Entry::Regulate { price, .. } if !between(-MOST_PRICE, MOST_PRICE, price) => Some(
-            Refusal::OutOfRange { given: price },
-        ),
-        Entry::Meter { kwh, .. } if !between(-MOST_READ, MOST_READ, kwh) => Some(
-            Refusal::OutOfRange { given: kwh },
-        ),
-        Entry::Evaluate { stage, .. } if !between(1, 3, stage) => Some(Refusal::OutOfRange {
-            given: stage,
-        }),
-        _ => from_traders(entry),
+    match entry.day() {
+        Some(day) => {
+            let last = i64::from(sizes.days);
+            require(between(1, last, day), Refusal::UnknownDay { day })
+        }
+        None => Ok(()),
     }
 }
 
-// Rows 3 to 5.
-fn from_hours(entry: &Entry) -> Option<Refusal>
-    ensures { result ≡ first_of (hour_checks entry.now ++ (value_checks entry.now ++ trader_checks entry.now)) }
+// Row 3.
+fn check_hours(entry: &Entry) -> Result<(), Refusal>
+    ensures { result ≡ checked (hour_checks entry.now) }
 {
     match *entry {
-        Entry::Register { from, to, .. } if !hours(from, to) => Some(Refusal::HourOrRange { from }),
-        Entry::Market { from, to, .. } if !hours(from, to) => Some(Refusal::HourOrRange { from }),
-        Entry::Meter { from, to, .. } if !hours(from, to) => Some(Refusal::HourOrRange { from }),
-        Entry::Regulate { hour, .. } if !between(1, 24, hour) => Some(Refusal::HourOrRange {
-            from: hour,
-        }),
-        _ => from_values(entry),
+        Entry::Register { from, to, .. } => check_range(from, to),
+        Entry::Market { from, to, .. } => check_range(from, to),
+        Entry::Meter { from, to, .. } => check_range(from, to),
+        Entry::Regulate { hour, .. } => check_hour(hour),
+        _ => Ok(()),
     }
 }
 
-// Rows 2 to 5.
-fn from_day(sizes: &Sizes, entry: &Entry) -> Option<Refusal>
-    ensures { result ≡ first_of (map (day_check sizes.now) (day_of entry.now) ++ (hour_checks entry.now ++ (value_checks entry.now ++ trader_checks entry.now))) }
+// Row 4.
+fn check_values(entry: &Entry) -> Result<(), Refusal>
+    ensures { result ≡ checked (value_checks entry.now) }
 {
     match *entry {
-        Entry::Register { day, .. } if !known(sizes.days, day) => Some(Refusal::UnknownDay { day }),
-        Entry::Market { day, .. } if !known(sizes.days, day) => Some(Refusal::UnknownDay { day }),
-        Entry::Close { day } if !known(sizes.days, day) => Some(Refusal::UnknownDay { day }),
-        Entry::Regulate { day, .. } if !known(sizes.days, day) => Some(Refusal::UnknownDay { day }),
-        Entry::Meter { day, .. } if !known(sizes.days, day) => Some(Refusal::UnknownDay { day }),
-        Entry::Evaluate { day, .. } if !known(sizes.days, day) => Some(Refusal::UnknownDay { day }),
-        _ => from_hours(entry),
+        Entry::Deposit { haler, .. } => check_value(between(1, MOST_HALERS, haler), haler),
+        Entry::Withdraw { haler, .. } => check_value(between(1, MOST_HALERS, haler), haler),
+        Entry::Register { kwh, .. } => check_value(between(1, MOST_KWH, kwh), kwh),
+        Entry::Market { kwh, price, .. } => {
+            check_value(market_kwh(kwh), kwh)?;
+            check_value(market_price(price), price)
+        }
+        Entry::Regulate { kwh, price, .. } => {
+            check_value(regulating_kwh(kwh), kwh)?;
+            check_value(between(-MOST_PRICE, MOST_PRICE, price), price)
+        }
+        Entry::Meter { kwh, .. } => check_value(between(-MOST_READ, MOST_READ, kwh), kwh),
+        Entry::Evaluate { stage, .. } => check_value(between(1, 3, stage), stage),
+        Entry::Close { .. } => Ok(()),
     }
 }
 
-// The first refusal that the entry's fields give, if any.
-pub fn check_fields(sizes: &Sizes, entry: &Entry) -> Option<Refusal>
-    ensures { result ≡ first_of (field_checks sizes.now entry.now) }
+// Row 5.
+fn check_traders(entry: &Entry) -> Result<(), Refusal>
+    ensures { result ≡ checked (trader_checks entry.now) }
 {
     match *entry {
-        Entry::Deposit { party, .. } if !known(sizes.parties, party) => Some(Refusal::UnknownParty {
-            party,
-        }),
-        Entry::Withdraw { party, .. } if !known(sizes.parties, party) => Some(
-            Refusal::UnknownParty { party },
-        ),
-        Entry::Regulate { party, .. } if !known(sizes.parties, party) => Some(
-            Refusal::UnknownParty { party },
-        ),
-        Entry::Meter { party, .. } if !known(sizes.parties, party) => Some(Refusal::UnknownParty {
-            party,
-        }),
-        Entry::Register { seller, .. } if !known(sizes.parties, seller) => Some(
-            Refusal::UnknownParty { party: seller },
-        ),
-        Entry::Market { seller, .. } if !known(sizes.parties, seller) => Some(
-            Refusal::UnknownParty { party: seller },
-        ),
-        Entry::Register { buyer, .. } if !known(sizes.parties, buyer) => Some(
-            Refusal::UnknownParty { party: buyer },
-        ),
-        Entry::Market { buyer, .. } if !known(sizes.parties, buyer) => Some(Refusal::UnknownParty {
-            party: buyer,
-        }),
-        _ => from_day(sizes, entry),
+        Entry::Register { seller, buyer, .. } => check_apart(seller, buyer),
+        Entry::Market { seller, buyer, .. } => check_apart(seller, buyer),
+        _ => Ok(()),
     }
+}
+
+// The first refusal that the entry's fields meet, if any.
+#[tactic(auto, using(crate::proofs::Passed::stops, crate::proofs::Passed::goes_on))]
+pub fn check_fields(sizes: &Sizes, entry: &Entry) -> Result<(), Refusal>
+    ensures { result ≡ checked (field_checks sizes.now entry.now) }
+{
+    check_parties(sizes, entry)?;
+    check_day(sizes, entry)?;
+    check_hours(entry)?;
+    check_values(entry)?;
+    check_traders(entry)
 }

@@ -2,6 +2,8 @@
 #![tactic(auto)]
 
 ghost use Rattle.std.specs.Prelude.{◌≡◌};
+ghost use Rattle.std.specs.Option.{option_to_list};
+ghost use Rattle.entries.specs.Fields.{day_of};
 ghost use Rattle.entries.specs.Refusals.{told};
 ghost use Rattle.entries.specs.States.{number_of, moved};
 
@@ -21,12 +23,23 @@ impl DayState {
     pub fn number(&self) -> u8
         ensures { result ≡ number_of self.now }
     {
-        match self {
-            DayState::Open => 0,
-            DayState::Closed => 1,
-            DayState::Daily => 2,
-            DayState::Monthly => 3,
-            DayState::Final => 4,
+        *self as u8
+    }
+}
+
+impl Entry {
+    // The day that the entry names, if any.
+    pub fn day(&self) -> Option<i64>
+        ensures { option_to_list result ≡ day_of self.now }
+    {
+        match *self {
+            Entry::Register { day, .. } => Some(day),
+            Entry::Market { day, .. } => Some(day),
+            Entry::Close { day } => Some(day),
+            Entry::Regulate { day, .. } => Some(day),
+            Entry::Meter { day, .. } => Some(day),
+            Entry::Evaluate { day, .. } => Some(day),
+            Entry::Deposit { .. } | Entry::Withdraw { .. } => None,
         }
     }
 }

@@ -4,14 +4,14 @@ use super::refusal::Refusal;
 use super::{check_fields, next_state};
 use refusals::Tells;
 
-fn told(number: u8, place: i64, answer: Option<Refusal>) -> bool {
+fn told(number: u8, place: i64, answer: Result<(), Refusal>) -> bool {
     match answer {
-        Some(refusal) => refusal.number() == number && refusal.place() == place,
-        None => number == 0,
+        Err(refusal) => refusal.number() == number && refusal.place() == place,
+        Ok(()) => number == 0,
     }
 }
 
-fn trade(kwh: i64, price: i64) -> Option<Refusal> {
+fn trade(kwh: i64, price: i64) -> Result<(), Refusal> {
     check_fields(
         &Sizes {
             parties: 3,
@@ -36,7 +36,7 @@ fn registration(
     seller: i64,
     buyer: i64,
     kwh: i64,
-) -> Option<Refusal> {
+) -> Result<(), Refusal> {
     check_fields(
         &Sizes {
             parties: 3,
@@ -80,7 +80,7 @@ fn states(rt: HostRuntime) {
     assert!(rt;
         match next_state(DayState::Monthly, &stage) {
             Ok(_) => false,
-            Err(refusal) => told(6, 3, Some(refusal)),
+            Err(refusal) => told(6, 3, Err(refusal)),
         }
     );
     assert!(rt;
