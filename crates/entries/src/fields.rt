@@ -89,13 +89,14 @@ fn check_apart(seller: i64, buyer: i64) -> Result<(), Refusal>
 fn check_parties(sizes: &Sizes, entry: &Entry) -> Result<(), Refusal>
     ensures { result ≡ checked (map (party_check sizes.now) (parties_of entry.now)) }
 {
-    match *entry {
-        Entry::Deposit { party, .. } => check_party(sizes, party),
-        Entry::Withdraw { party, .. } => check_party(sizes, party),
-        Entry::Register { seller, buyer, .. } => check_traders_known(sizes, seller, buyer),
-        Entry::Market { seller, buyer, .. } => check_traders_known(sizes, seller, buyer),
-        Entry::Regulate { party, .. } => check_party(sizes, party),
-        Entry::Meter { party, .. } => check_party(sizes, party),
+    match entry {
+        Entry::Deposit { party, .. }
+        | Entry::Withdraw { party, .. }
+        | Entry::Regulate { party, .. }
+        | Entry::Meter { party, .. } => check_party(sizes, *party),
+        Entry::Register { seller, buyer, .. } | Entry::Market { seller, buyer, .. } => {
+            check_traders_known(sizes, *seller, *buyer)
+        }
         Entry::Close { .. } | Entry::Evaluate { .. } => Ok(()),
     }
 }
@@ -117,12 +118,15 @@ fn check_day(sizes: &Sizes, entry: &Entry) -> Result<(), Refusal>
 fn check_hours(entry: &Entry) -> Result<(), Refusal>
     ensures { result ≡ checked (hour_checks entry.now) }
 {
-    match *entry {
-        Entry::Register { from, to, .. } => check_range(from, to),
-        Entry::Market { from, to, .. } => check_range(from, to),
-        Entry::Meter { from, to, .. } => check_range(from, to),
-        Entry::Regulate { hour, .. } => check_hour(hour),
-        _ => Ok(()),
+    match entry {
+        Entry::Register { from, to, .. }
+        | Entry::Market { from, to, .. }
+        | Entry::Meter { from, to, .. } => check_range(*from, *to),
+        Entry::Regulate { hour, .. } => check_hour(*hour),
+        Entry::Deposit { .. }
+        | Entry::Withdraw { .. }
+        | Entry::Close { .. }
+        | Entry::Evaluate { .. } => Ok(()),
     }
 }
 
@@ -130,20 +134,21 @@ fn check_hours(entry: &Entry) -> Result<(), Refusal>
 fn check_values(entry: &Entry) -> Result<(), Refusal>
     ensures { result ≡ checked (value_checks entry.now) }
 {
-    match *entry {
-        Entry::Deposit { haler, .. } => check_value(between(1, MOST_HALERS, haler), haler),
-        Entry::Withdraw { haler, .. } => check_value(between(1, MOST_HALERS, haler), haler),
-        Entry::Register { kwh, .. } => check_value(between(1, MOST_KWH, kwh), kwh),
+    match entry {
+        Entry::Deposit { haler, .. } | Entry::Withdraw { haler, .. } => {
+            check_value(between(1, MOST_HALERS, *haler), *haler)
+        }
+        Entry::Register { kwh, .. } => check_value(between(1, MOST_KWH, *kwh), *kwh),
         Entry::Market { kwh, price, .. } => {
-            check_value(market_kwh(kwh), kwh)?;
-            check_value(market_price(price), price)
+            check_value(market_kwh(*kwh), *kwh)?;
+            check_value(market_price(*price), *price)
         }
         Entry::Regulate { kwh, price, .. } => {
-            check_value(regulating_kwh(kwh), kwh)?;
-            check_value(between(-MOST_PRICE, MOST_PRICE, price), price)
+            check_value(regulating_kwh(*kwh), *kwh)?;
+            check_value(between(-MOST_PRICE, MOST_PRICE, *price), *price)
         }
-        Entry::Meter { kwh, .. } => check_value(between(-MOST_READ, MOST_READ, kwh), kwh),
-        Entry::Evaluate { stage, .. } => check_value(between(1, 3, stage), stage),
+        Entry::Meter { kwh, .. } => check_value(between(-MOST_READ, MOST_READ, *kwh), *kwh),
+        Entry::Evaluate { stage, .. } => check_value(between(1, 3, *stage), *stage),
         Entry::Close { .. } => Ok(()),
     }
 }
@@ -152,9 +157,10 @@ fn check_values(entry: &Entry) -> Result<(), Refusal>
 fn check_traders(entry: &Entry) -> Result<(), Refusal>
     ensures { result ≡ checked (trader_checks entry.now) }
 {
-    match *entry {
-        Entry::Register { seller, buyer, .. } => check_apart(seller, buyer),
-        Entry::Market { seller, buyer, .. } => check_apart(seller, buyer),
+    match entry {
+        Entry::Register { seller, buyer, .. } | Entry::Market { seller, buyer, .. } => {
+            check_apart(*seller, *buyer)
+        }
         _ => Ok(()),
     }
 }

@@ -32,13 +32,13 @@ impl Entry {
     pub fn day(&self) -> Option<i64>
         ensures { option_to_list result ≡ day_of self.now }
     {
-        match *self {
-            Entry::Register { day, .. } => Some(day),
-            Entry::Market { day, .. } => Some(day),
-            Entry::Close { day } => Some(day),
-            Entry::Regulate { day, .. } => Some(day),
-            Entry::Meter { day, .. } => Some(day),
-            Entry::Evaluate { day, .. } => Some(day),
+        match self {
+            Entry::Register { day, .. }
+            | Entry::Market { day, .. }
+            | Entry::Close { day }
+            | Entry::Regulate { day, .. }
+            | Entry::Meter { day, .. }
+            | Entry::Evaluate { day, .. } => Some(*day),
             Entry::Deposit { .. } | Entry::Withdraw { .. } => None,
         }
     }
@@ -72,18 +72,14 @@ pub fn next_state(state: DayState, entry: &Entry) -> Result<DayState, Refusal>
     ensures { result ≡ moved state entry.now }
 {
     match (state, entry) {
-        (_, Entry::Deposit { party: _, haler: _ }) => Ok(state),
-        (_, Entry::Withdraw { party: _, haler: _ }) => Ok(state),
-        (DayState::Open, Entry::Register { .. }) => Ok(DayState::Open),
-        (DayState::Open, Entry::Market { .. }) => Ok(DayState::Open),
-        (DayState::Open, Entry::Close { day: _ }) => Ok(DayState::Closed),
+        (_, Entry::Deposit { .. } | Entry::Withdraw { .. }) => Ok(state),
+        (DayState::Open, Entry::Register { .. } | Entry::Market { .. }) => Ok(DayState::Open),
+        (DayState::Open, Entry::Close { .. }) => Ok(DayState::Closed),
         (DayState::Closed, Entry::Regulate { .. }) => Ok(DayState::Closed),
-        (DayState::Closed, Entry::Meter { .. }) => Ok(DayState::Closed),
-        (DayState::Closed, Entry::Evaluate { day: _, stage: 1 }) => Ok(DayState::Daily),
-        (DayState::Daily, Entry::Meter { .. }) => Ok(DayState::Daily),
-        (DayState::Daily, Entry::Evaluate { day: _, stage: 2 }) => Ok(DayState::Monthly),
-        (DayState::Monthly, Entry::Meter { .. }) => Ok(DayState::Monthly),
-        (DayState::Monthly, Entry::Evaluate { day: _, stage: 3 }) => Ok(DayState::Final),
+        (DayState::Closed | DayState::Daily | DayState::Monthly, Entry::Meter { .. }) => Ok(state),
+        (DayState::Closed, Entry::Evaluate { stage: 1, .. }) => Ok(DayState::Daily),
+        (DayState::Daily, Entry::Evaluate { stage: 2, .. }) => Ok(DayState::Monthly),
+        (DayState::Monthly, Entry::Evaluate { stage: 3, .. }) => Ok(DayState::Final),
         _ => Err(Refusal::NotAdmitted { state }),
     }
 }
