@@ -30,9 +30,13 @@ sale_of s (Regulate day hour party kwh price) = no_sale
 sale_of s (Meter day from to party kwh) = no_sale
 sale_of s (Evaluate day stage) = no_sale
 
--- whether in the hour t a position of seller or buyer would pass 499,999 in magnitude
+-- whether a sale of kWh would take the position of seller or buyer past 499,999 in magnitude
+abbrev pub over : ℤ → PlainCell → PlainCell → Bool
+over kwh seller buyer = not (within 499999 ((read seller).position +ℤ kwh) && within 499999 ((read buyer).position +ℤ neg_ℤ kwh))
+
+-- in the hour t
 abbrev pub beyond_in : List PlainCell → Sale → ℕ → Bool
-beyond_in cells s t = not (within 499999 ((read (slice_index_or cells (s.seller + t) blank)).position +ℤ s.kwh) && within 499999 ((read (slice_index_or cells (s.buyer + t) blank)).position +ℤ neg_ℤ s.kwh))
+beyond_in cells s t = over s.kwh (slice_index_or cells (s.seller + t) blank) (slice_index_or cells (s.buyer + t) blank)
 
 -- what an entry trades of a party, as a run of the party's own cells
 abbrev pub trade : ℤ → ℤ → ℤ → ℤ → Trade

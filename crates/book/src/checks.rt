@@ -1,5 +1,5 @@
 // What refuses an entry: the rows of the table of refusals, in their order (docs/RULES.md, "Refusals").
-ghost use Rattle.std.specs.Prelude.{◌≡◌, ℕ, ◌+◌, ◌-◌, ◌*◌, ◌<◌, ◌≤◌, not, ◌&&◌, [], ◌∷◌, ◌++◌, length, ℤ, pos, ◌+ℤ◌, neg_ℤ, IfSome, ◌≢◌, unsigned_abs};
+ghost use Rattle.std.specs.Prelude.{◌≡◌, ℕ, ◌+◌, ◌-◌, ◌*◌, ◌<◌, ◌≤◌, [], ◌∷◌, length, position, take, drop, zip, ℤ, pos, ◌+ℤ◌, neg_ℤ, IfSome, ◌≢◌, unsigned_abs};
 ghost use Rattle.std.specs.Option.{option_map};
 ghost use Rattle.hourly.specs.Bounds.{within};
 ghost use Rattle.hourly.specs.Cells.{read};
@@ -11,7 +11,7 @@ ghost use Rattle.entries.specs.Sane.{Numbered, Sane};
 ghost use Rattle.book.specs.Standing.{index};
 ghost use Rattle.book.specs.Effects.{paid, side, sold};
 ghost use Rattle.book.specs.Checks.{beyond_of, kwh_checks, cash_after, cash_check, cash_checks, cover_check, cover_checks, state_check, state_checks, need_after, passes_cover, first};
-ghost use Rattle.book.specs.Sales.{beyond_in, cells_of, sale_of, states_of, trade_of};
+ghost use Rattle.book.specs.Sales.{beyond_in, cells_of, over, sale_of, states_of, trade_of};
 ghost use Rattle.book.specs.Held.{standing_on};
 ghost use Rattle.book.specs.Posting.{refusal_on};
 ghost use Rattle.book.specs.Books.{held, terms_by};
@@ -76,7 +76,7 @@ fn has_room(cell: &PlainCell, kwh: i64) -> bool
 // Whether a sale in one hour would take a position beyond its limit.
 fn beyond(seller: &PlainCell, buyer: &PlainCell, kwh: i64) -> bool
     requires { unsigned_abs kwh ≤ 499000 }
-    ensures { result ≡ not (within 499999 ((read seller.now).position +ℤ kwh) && within 499999 ((read buyer.now).position +ℤ neg_ℤ kwh)) }
+    ensures { result ≡ over kwh seller.now buyer.now }
 {
     if !has_room(seller, kwh) {
         return true;
@@ -94,6 +94,27 @@ struct Sale {
     kwh: i64,
 }
 
+// Some cells that lie side by side.
+fn hours_of(cells: &[PlainCell], start: usize, count: usize) -> &[PlainCell]
+    requires { start + count ≤ length cells.now }
+    ensures { result.now ≡ take count (drop start cells.now) }
+{
+    &cells[start..start + count]
+}
+
+// The first place at which a sale would take a position beyond its limit.
+fn first_in(sellers: &[PlainCell], buyers: &[PlainCell], kwh: i64) -> Option<usize>
+    requires kwh { unsigned_abs kwh ≤ 499000 }
+    requires same { length sellers.now ≡ length buyers.now }
+    ensures value { result ≡ position (λ pair. over kwh pair.0 pair.1) (zip sellers.now buyers.now) }
+    ensures within { IfSome result (λ (place : ℕ). place < length sellers.now) }
+{
+    sellers
+        .iter()
+        .zip(buyers)
+        .position(|(seller, buyer)| beyond(seller, buyer, kwh))
+}
+
 // The first hour in which a sale would take a position beyond its limit.
 fn first_beyond(cells: &[PlainCell], sale: &Sale) -> Option<usize>
     requires kwh { unsigned_abs sale.now.kwh ≤ 499000 }
@@ -102,16 +123,9 @@ fn first_beyond(cells: &[PlainCell], sale: &Sale) -> Option<usize>
     ensures value { result ≡ first (beyond_in cells.now sale.now) sale.now.from sale.now.hours }
     ensures within { IfSome result (λ (hour : ℕ). hour < sale.now.from + sale.now.hours) }
 {
-    for hour in sale.from..sale.from + sale.hours {
-        if beyond(
-            &cells[sale.seller + hour],
-            &cells[sale.buyer + hour],
-            sale.kwh,
-        ) {
-            return Some(hour);
-        }
-    }
-    None
+    let sellers = hours_of(cells, sale.seller + sale.from, sale.hours);
+    let buyers = hours_of(cells, sale.buyer + sale.from, sale.hours);
+    first_in(sellers, buyers, sale.kwh).map(|hour| sale.from + hour)
 }
 
 // Whether a record has room for a delivery.
@@ -360,10 +374,7 @@ impl Ledger<'_> {
         ensures value { result ≡ pos (need_with in_use (states_of self.now) (cells_of self.now party) trade.now.start trade.now.end trade.now.kwh) }
     {
         let prices = ParametricPrices::in_use();
-        match need_with(&prices, self.day_states(), self.cells_of(party), trade) {
-            Some(need) => need,
-            None => unreachable(),
-        }
+        need_with(&prices, self.day_states(), self.cells_of(party), trade).unwrap()
     }
 
     // A party's balance after an entry.

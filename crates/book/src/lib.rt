@@ -62,15 +62,9 @@ fn read_account(account: &Account) -> Account
     ensures cash { unsigned_abs result.cash ≤ 100000000000000000 }
     ensures settled { unsigned_abs result.settled ≤ 937440000000000 }
 {
-    if lies_within(100_000_000_000_000_000, account.cash)
-        && lies_within(937_440_000_000_000, account.settled)
-    {
-        return *account;
-    }
-    Account {
-        cash: 0,
-        settled: 0,
-    }
+    let sound = lies_within(100_000_000_000_000_000, account.cash)
+        && lies_within(937_440_000_000_000, account.settled);
+    if sound { *account } else { Account::default() }
 }
 
 // The hours of a range, both ends included.
@@ -99,10 +93,7 @@ fn market_cash(from: i64, to: i64, kwh: i64, price: i64) -> i64
     ensures few { unsigned_abs result ≤ 119758802400 }
 {
     let moved = tens(hours(from, to), kwh.unsigned_abs());
-    match units::tenths_at(moved as i64, price) {
-        Some(halers) => halers,
-        None => unreachable(),
-    }
+    units::tenths_at(moved as i64, price).unwrap()
 }
 
 // The state of a day after an entry: as it was where it does not admit the entry.
@@ -120,10 +111,10 @@ fn delivered(lying: &PlainRecord, kwh: i64, price: i64) -> PlainRecord
     requires { deliverable (record_read lying.now) kwh price ≡ true }
     ensures { result ≡ record_plain (delivered (record_read lying.now) kwh price) }
 {
-    match HourRecord::from_plain(lying).deliver(kwh, price) {
-        Some(after) => after.to_plain(),
-        None => unreachable(),
-    }
+    HourRecord::from_plain(lying)
+        .deliver(kwh, price)
+        .unwrap()
+        .to_plain()
 }
 
 // An account with halers more.
@@ -216,10 +207,7 @@ impl Ledger<'_> {
     {
         match self.accounts.get(of) {
             Some(account) => read_account(account),
-            None => Account {
-                cash: 0,
-                settled: 0,
-            },
+            None => Account::default(),
         }
     }
 
@@ -227,10 +215,7 @@ impl Ledger<'_> {
     fn state(&self, day: usize) -> DayState
         ensures { result ≡ (standing_on self.now).state day }
     {
-        match self.states.get(day) {
-            Some(state) => *state,
-            None => DayState::Open,
-        }
+        self.states.get(day).copied().unwrap_or(DayState::Open)
     }
 
     // The cells of a party, day by day.
@@ -294,50 +279,16 @@ impl Ledger<'_> {
         self.pages.change(start, hours(from, to) as usize, change);
     }
 
-    // Adds kWh to the positions of some hours.
-    fn shift_hours(&mut self, party: i64, day: i64, from: i64, to: i64, kwh: i64)
-        requires known { (Numbered self.old.sizes.parties party) × ((Numbered self.old.sizes.days day) × (Ranged from to)) }
-        requires few { unsigned_abs kwh ≤ 499000 }
-        ensures written { self.new ≡ with_cells self.old (in_row self.old party day from to (shifted kwh) self.old.cells) }
-    {
-        match Shift::new(kwh) {
-            Some(shift) => self.change_hours(party, day, from, to, &shift),
-            None => unreachable(),
-        }
-    }
-
-    // Sets the readings of some hours.
-    fn meter_hours(&mut self, party: i64, day: i64, from: i64, to: i64, kwh: i64)
-        requires known { (Numbered self.old.sizes.parties party) × ((Numbered self.old.sizes.days day) × (Ranged from to)) }
-        requires few { unsigned_abs kwh ≤ 499999 }
-        ensures { self.new ≡ with_cells self.old (in_row self.old party day from to (metered kwh) self.old.cells) }
-    {
-        match Reading::new(kwh) {
-            Some(reading) => self.change_hours(party, day, from, to, &reading),
-            None => unreachable(),
-        }
-    }
-
-    // Adds a delivery to the cell of its hour.
-    fn regulate_hour(&mut self, party: i64, day: i64, hour: i64, kwh: i64, price: i64)
-        requires known { (Numbered self.old.sizes.parties party) × ((Numbered self.old.sizes.days day) × (Numbered 24 hour)) }
-        requires few { (unsigned_abs kwh ≤ 499000) × (unsigned_abs price ≤ 99999) }
-        ensures written { self.new ≡ with_cells self.old (in_row self.old party day hour hour (regulated kwh price) self.old.cells) }
-    {
-        match Delivery::new(kwh, price) {
-            Some(delivery) => self.change_hours(party, day, hour, hour, &delivery),
-            None => unreachable(),
-        }
-    }
-
     // Moves kWh of some hours from the buyer's position to the seller's.
     fn sell(&mut self, day: i64, from: i64, to: i64, seller: i64, buyer: i64, kwh: i64)
         requires known { (Numbered self.old.sizes.parties seller) × ((Numbered self.old.sizes.parties buyer) × ((Numbered self.old.sizes.days day) × (Ranged from to))) }
         requires few { unsigned_abs kwh ≤ 499000 }
         ensures { self.new ≡ with_cells self.old (sale self.old day from to seller buyer kwh) }
     {
-        self.shift_hours(seller, day, from, to, kwh);
-        self.shift_hours(buyer, day, from, to, minus(kwh));
+        let sold = Shift::new(kwh).unwrap();
+        let bought = Shift::new(minus(kwh)).unwrap();
+        self.change_hours(seller, day, from, to, &sold);
+        self.change_hours(buyer, day, from, to, &bought);
     }
 
     // Moves halers from the buyer's cash to the seller's.
@@ -357,7 +308,8 @@ impl Ledger<'_> {
         requires room { deliverable ((standing_on self.old).deliveries (index day) (index hour)) kwh price ≡ true }
         ensures { self.new ≡ posted self.old (Regulate day hour party kwh price) }
     {
-        self.regulate_hour(party, day, hour, kwh, price);
+        let delivery = Delivery::new(kwh, price).unwrap();
+        self.change_hours(party, day, hour, hour, &delivery);
         self.deliver(day, hour, kwh, price);
     }
 
@@ -404,7 +356,10 @@ impl Ledger<'_> {
                 to,
                 party,
                 kwh,
-            } => self.meter_hours(party, day, from, to, kwh),
+            } => {
+                let reading = Reading::new(kwh).unwrap();
+                self.change_hours(party, day, from, to, &reading);
+            }
             Entry::Evaluate { .. } => {}
         }
     }

@@ -52,10 +52,7 @@ impl<'a, P: Drop, S: Drop> Book<'a, P, S> {
                 parties: parties as u8,
                 days: days as u8,
             },
-            accounts: [Account {
-                cash: 0,
-                settled: 0,
-            }; 20],
+            accounts: [Account::default(); 20],
             states: [DayState::Open; 62],
             operator: 0,
         };

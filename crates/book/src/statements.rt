@@ -27,10 +27,7 @@ impl Ledger<'_> {
         ensures value { result ≡ pos (need_of in_use (states_of self.now) (cells_of self.now party)) }
     {
         let prices = ParametricPrices::in_use();
-        match need(&prices, self.day_states(), self.cells_of(party)) {
-            Some(need) => need,
-            None => unreachable(),
-        }
+        need(&prices, self.day_states(), self.cells_of(party)).unwrap()
     }
 
     // A party's balance.

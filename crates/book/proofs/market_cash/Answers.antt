@@ -12,8 +12,8 @@ returns c =
     let few : k ≤ 1197600 = search rules in
     let km : k ≡ m = search rules in
     let kz : to_z w64 k ≡ pos k = omega (arith, ints) in
-    let v : c.in-Some.halers ≡ to_z w64 k *ℤ p = search rules in
-    let z : to_z w64 (of_z w64 c.in-Some.halers) ≡ c.in-Some.halers = search rules in
+    let v : c.unwrap.result ≡ to_z w64 k *ℤ p = search rules in
+    let z : to_z w64 (of_z w64 c.unwrap.result) ≡ c.unwrap.result = search rules in
     let e = z ∙ v ∙ ap (λ (x : ℤ). x *ℤ p) kz in
     record {
       value = e ∙ ap (λ n. pos n *ℤ p) km;

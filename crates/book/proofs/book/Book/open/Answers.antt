@@ -1,4 +1,4 @@
-use Rattle.std.proofs.Common.{◌≡◌, ◌≤◌, ◌*◌, true, length, nat_abs, ap, ◌∙◌, w64, to_z, of_z, rules}
+use Rattle.std.proofs.Common.{◌≡◌, true, length, ap, ◌∙◌, w64, to_z, of_z, rules}
 use Rattle.std.proofs.lemmas.List.{length-replicate}
 use Rattle.hourly.specs.Cells.{blank}
 use Rattle.hourly.specs.Records.{no_deliveries, record_plain}
