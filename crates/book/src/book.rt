@@ -4,7 +4,8 @@ use super::pages::Pages;
 use entries::entry::{DayState, Sizes};
 use std::marker::Model;
 
-// The pages, and what is kept beside them. Accounts past the last party and states past the last day are never looked at.
+// The pages, and what is kept beside them. Accounts past the last party and states past the last day are never looked at:
+// `sizes` counts them as it counts what lies on the pages, and an `ArrayVec` for each would count them again.
 #[derive(Drop)]
 pub(crate) struct Ledger<'a> {
     pub(crate) pages: Pages<'a>,

@@ -47,6 +47,7 @@ const BLANK: PlainCell = PlainCell {
 
 impl Ledger<'_> {
     // The cells of an hour, one for each party in order.
+    // `array::from_fn` was tried: it says that some state of the closure gave each value, and not that the ledger which it borrows stayed the same.
     fn hour_cells(&self, day: usize, hour: usize) -> [PlainCell; 20]
         requires { (day < self.now.sizes.days) × (hour < 24) }
         ensures { map read (take self.now.sizes.parties result) ≡ listed self.now.sizes.parties (λ p. (standing_on self.now).cell p day hour) }

@@ -42,9 +42,9 @@ returns c =
     let test = λ (pair : PlainCell × PlainCell). over s.kwh pair.0 pair.1 in
     let kwh : to_z w64 (of_z w64 s.kwh) ≡ s.kwh = search rules in
     let found =
-      c.first_in.ensures.value
-      ∙ ap (λ z. position (λ (pair : PlainCell × PlainCell). over z pair.0 pair.1) (zip c.hours_of-sellers.result.now c.hours_of-buyers.result.now)) kwh
-      ∙ ap₂ (λ (us vs : List PlainCell). position test (zip us vs)) c.hours_of-sellers.ensures c.hours_of-buyers.ensures in
+    c.first_in.ensures.value
+    ∙ ap (λ z. position (λ (pair : PlainCell × PlainCell). over z pair.0 pair.1) (zip c.hours_of-sellers.result.now c.hours_of-buyers.result.now)) kwh
+    ∙ ap₂ (λ (us vs : List PlainCell). position test (zip us vs)) c.hours_of-sellers.ensures c.hours_of-buyers.ensures in
     let mapped : c.map.result ≡ option_map (λ k. s.from + k) c.first_in.result = search rules in
     let is = mapped ∙ ap (option_map (λ k. s.from + k)) found ∙ first_of_sale cells s c.requires.seller c.requires.buyer in
     record {
