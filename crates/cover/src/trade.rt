@@ -1,5 +1,5 @@
 // A trade as one party's cells would take it: at places `start` to `end` - 1, `kwh` more sold in each hour, or bought if negative.
-#[derive(Clone, Copy)]
+#[derive(Clone, Copy, Default)]
 pub struct Trade {
     pub start: usize,
     pub end: usize,
