@@ -13,4 +13,4 @@ told line (Err col) (Ok u) short clean h e = absurd e
 told line (Err col) (Err f) short clean h e = subst (λ f. Brackets line (Err f)) (sym e) (short, clean, h.0, h.1)
 
 pub returns : goal.returns
-returns c = told c.args.line.now c.scan.result c.map_err.result (omega arith) (λ k. c.in_default.ensures k) c.scan.ensures (search rules)
+returns c = told c.args.line.now c.scan.result c.map_err.result (omega arith) (λ k d. c.in_default.ensures k d) c.scan.ensures (search rules)
