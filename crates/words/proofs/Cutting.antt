@@ -1,14 +1,14 @@
 -- Where the parts of a field lie.
 use Rattle.std.proofs.Common.{◌≡◌, ℕ, ◌+◌, ◌-◌, ◌<◌, true, false, ◌⊎◌, List, [], ◌∷◌, ◌++◌, length, get_or, take, drop, sym, refl, ap, ◌∙◌, subst, ⊎_elim, append_assoc, arith, length-append, length-drop}
 use lib.Seq.{drop-append-add}
-use Rattle.std.specs.List.{AllByRecursion}
+use Rattle.std.specs.List.{All}
+use Rattle.std.proofs.lemmas.List.Elements.{All-nil, All-cons, All-head, All-tail, All-get_or, All-append, All-weaker}
 use Rattle.std.proofs.lemmas.List.{get_or-drop, get_or_append_left, get_or_at, drop-drop, take_at}
-use Rattle.std.proofs.ByRecursion.{All-get_or, All-append, All-weaker}
 use Rattle.std.proofs.lemmas.Bool.{cases_order, both_ways}
 use Rattle.std.proofs.lemmas.Bool.Decides.{nat_tests}
 use Rattle.brackets.specs.Bytes.{Letter, Digit}
 use Rattle.brackets.specs.Grammar.{Field, GoodField, rest}
-use Rattle.words.specs.Walk.{stops, EndsAt, FieldAt, width}
+use Rattle.words.specs.Walk.{stops, EndsAt, FieldAt, FieldsAt, width}
 
 abbrev Inner : ℕ → Type 0
 Inner b = stops b ≡ false
@@ -19,18 +19,18 @@ letter-inner b h = grind (arith, nat_tests)
 digit-inner : (b : ℕ) → Digit b → Inner b
 digit-inner b h = grind (arith, nat_tests)
 
-pub name-inner : (f : Field) → GoodField f → AllByRecursion Inner f.name
+pub name-inner : (f : Field) → GoodField f → All Inner f.name
 name-inner f g = All-weaker Letter Inner letter-inner f.name g.named.1
 
-sign-inner : (sg : List ℕ) → (sg ≡ []) ⊎ (sg ≡ 45 ∷ []) → AllByRecursion Inner sg
-sign-inner sg s = ⊎_elim (λ e. subst (AllByRecursion Inner) (sym e) tt) (λ e. subst (AllByRecursion Inner) (sym e) (refl, tt)) s
+sign-inner : (sg : List ℕ) → (sg ≡ []) ⊎ (sg ≡ 45 ∷ []) → All Inner sg
+sign-inner sg s = ⊎_elim (λ e. subst (All Inner) (sym e) (All-nil Inner)) (λ e. subst (All Inner) (sym e) (All-cons Inner 45 [] refl (All-nil Inner))) s
 
-pub number-inner : (f : Field) → GoodField f → AllByRecursion Inner (f.sign ++ f.digits)
+pub number-inner : (f : Field) → GoodField f → All Inner (f.sign ++ f.digits)
 number-inner f g =
     All-append Inner f.sign f.digits (sign-inner f.sign g.signed) (All-weaker Digit Inner digit-inner f.digits g.counted.1)
 
 -- a word of the line ends where its bytes end
-pub ends_is : (line : List ℕ) (start r : ℕ) (w : List ℕ) (c : ℕ) (t : List ℕ) → EndsAt line start r → drop start line ≡ w ++ (c ∷ t) → AllByRecursion Inner w → stops c ≡ true → r ≡ start + length w
+pub ends_is : (line : List ℕ) (start r : ℕ) (w : List ℕ) (c : ℕ) (t : List ℕ) → EndsAt line start r → drop start line ≡ w ++ (c ∷ t) → All Inner w → stops c ≡ true → r ≡ start + length w
 ends_is line start r w c t h e inner stop =
     let long : length line - start ≡ length w + (length t + 1) = sym (length-drop start line) ∙ ap length e ∙ length-append w (c ∷ t) ∙ omega arith in
     let last : get_or line (start + length w) 0 ≡ c = sym (get_or-drop start line (length w) 0) ∙ ap (λ l. get_or l (length w) 0) e ∙ get_or_at w c t 0 (length w) refl in
@@ -61,6 +61,13 @@ pub rest_cut : (line : List ℕ) (at : ℕ) (f : Field) (fs : List Field) → Fi
 rest_cut line at f fs h =
     let e : at + width f ≡ at + 2 + (length f.name + 1) + (length (f.sign ++ f.digits) + 1) = omega arith in
     ap (λ n. drop n line) e ∙ past (f.sign ++ f.digits) 41 (rest fs) line (at + 2 + (length f.name + 1)) (number_cut line at f fs h)
+
+-- the next field, and the fields after it
+pub field_next : (line : List ℕ) (at : ℕ) (f : Field) (fs : List Field) → FieldsAt line at (f ∷ fs) → FieldAt line at f fs
+field_next line at f fs h = (All-head GoodField f fs h.0, h.1)
+
+pub fields_after : (line : List ℕ) (at : ℕ) (f : Field) (fs : List Field) → FieldsAt line at (f ∷ fs) → FieldsAt line (at + width f) fs
+fields_after line at f fs h = (All-tail GoodField f fs h.0, rest_cut line at f fs (field_next line at f fs h))
 
 some : (fs : List Field) → 0 < length (rest fs)
 some [] = omega arith

@@ -1,7 +1,7 @@
 -- Where the head and the fields of a form lie, and how many numbers it has.
 use Rattle.std.proofs.Common.{◌≡◌, ℕ, ◌+◌, ◌-◌, ◌≤◌, false, List, [], ◌∷◌, ◌++◌, map, length, take, drop, sym, refl, ap, ◌∙◌, arith, Bor}
 use Rattle.std.proofs.lemmas.List.{drop-drop, drop_at, length-map}
-use Rattle.std.proofs.ByRecursion.{All-weaker}
+use Rattle.std.proofs.lemmas.List.Elements.{All-weaker}
 use Rattle.std.proofs.lemmas.Bool.Decides.{nat_tests}
 use Rattle.brackets.specs.Bytes.{Letter}
 use Rattle.brackets.specs.Grammar.{Field, rest, IsForm}

@@ -1,6 +1,6 @@
 // From the bytes of a line to its form.
 ghost use Rattle.std.specs.Prelude.{◌≡◌, ℕ, ◌<◌, ◌≤◌, List, ◌∷◌, map, length, take, pos, if◌then◌else◌, Some, None, Ok, Err, Decides, MatchOption, MatchResult};
-ghost use Rattle.std.specs.List.{AllByRecursion};
+ghost use Rattle.std.specs.List.{All};
 ghost use Rattle.brackets.specs.Bytes.{Digit};
 ghost use Rattle.brackets.specs.Grammar.{Field};
 ghost use Rattle.brackets.specs.Layer.{Brackets};
@@ -20,7 +20,7 @@ use entries::entry::Entry;
 // The value of at most 18 digits.
 fn magnitude(digits: &[u8]) -> i64
     requires few { length digits.now ≤ 18 }
-    requires all { AllByRecursion Digit digits.now }
+    requires all { All Digit digits.now }
     ensures value { result ≡ pos (decimal_value digits.now) }
     ensures bound { decimal_value digits.now < 1000000000000000000 }
 {
