@@ -1,8 +1,8 @@
 -- From number to number.
-use Rattle.std.proofs.Common.{◌≡◌, ℕ, ◌+◌, ◌<◌, List, [], ◌∷◌, ◌++◌, map, length, take, drop, set, ℤ, Some, None, Ok, Err, sym, refl, ap, ◌∙◌, subst, ⊎_elim, append_assoc, append-nil, arith}
+use Rattle.std.proofs.Common.{◌≡◌, ℕ, ◌+◌, ◌<◌, List, [], ◌∷◌, ◌++◌, map, length, take, set, ℤ, Some, None, Ok, Err, sym, refl, ap, ◌∙◌, subst, ⊎_elim, append_assoc, append-nil, arith}
 use Rattle.std.proofs.lemmas.List.{take_more_set}
 use Rattle.std.proofs.lemmas.Bool.{cond-true, cond-false, cases_Bool}
-use Rattle.brackets.specs.Grammar.{Field, rest}
+use Rattle.brackets.specs.Grammar.{Field}
 use Rattle.words.specs.Walk.{malformed}
 use Rattle.words.specs.Walk.{FieldAt, width}
 use Rattle.words.specs.Walk.{FieldsAt}

@@ -1,6 +1,6 @@
 -- What the private functions answer that walk over a line from field to field. Which lines are read, and as what, is defined in
 -- specs/Layer.antt without any of this. Places count from 0, columns from 1. Assumes nothing.
-use Rattle.std.specs.Prelude.{◌≡◌, ℕ, ◌+◌, ◌<◌, ◌≤◌, Bool, true, false, cond, List, [], ◌∷◌, ◌++◌, length, drop, ℤ, pos, neg_ℤ, Some, None, Ok, Err, Option, Result, ◌==◌, nat_lt, slice_index}
+use Rattle.std.specs.Prelude.{◌≡◌, ℕ, ◌+◌, Bool, true, cond, List, [], ◌∷◌, ◌++◌, length, drop, ℤ, pos, neg_ℤ, Some, None, Ok, Err, Option, Result, ◌==◌, nat_lt, slice_index}
 use Rattle.std.specs.List.{All}
 use Rattle.std.specs.Str.{bytes_eq}
 use Rattle.brackets.specs.Grammar.{Numeral, Field, GoodField, rest, IsForm}
@@ -29,18 +29,6 @@ text_value v = cond (slice_index v 0 == 45) (neg_ℤ (pos (decimal_value (drop 1
 -- a space or a closing bracket ends a word or a number
 abbrev pub stops : ℕ → Bool
 stops b = cond (b == 32) true (b == 41)
-
--- r is the first place from `start` on where a word or a number ends
-pub record EndsAt (line : List ℕ) (start r : ℕ) : Type 0 where
-  pub low : start ≤ r
-  pub high : r ≤ length line
-  pub inner : (k : ℕ) → start ≤ k → k < r → stops (slice_index line k) ≡ false
-  pub here : r < length line → stops (slice_index line r) ≡ true
-
--- the bytes of a token
-abbrev pub token_text : Token → List ℕ
-token_text (Word text column) = text.now
-token_text (Number text column) = text.now
 
 -- the token is this word, or this number, at this column
 abbrev pub IsWord : Token → List ℕ → ℕ → Type 0
