@@ -6,3 +6,4 @@ pub mod Firsts
 pub mod Covering
 pub mod Runs
 pub mod Unrefused
+pub mod Opened

@@ -3,13 +3,14 @@
 --   first f a n            the first of the n places from a on at which f holds
 --   checks m v e           the checks of the entry e
 --   refusal_at m v e       the first that fails, if any
-use Rattle.std.specs.Prelude.{ℕ, zero, suc, ◌+◌, Bool, true, cond, not, ◌&&◌, List, [], ◌∷◌, ◌++◌, map, ℤ, pos, ◌+ℤ◌, neg_ℤ, is_some, Some, None, Option, int_le}
+use Rattle.std.specs.Prelude.{ℕ, zero, suc, ◌+◌, Bool, true, false, cond, not, ◌&&◌, List, [], ◌∷◌, ◌++◌, map, ℤ, pos, ◌+ℤ◌, neg_ℤ, is_some, Some, None, Option, int_le}
 use Rattle.std.specs.Option.{unwrap_or}
 use Rattle.hourly.specs.Bounds.{within}
 use Rattle.hourly.specs.Records.{deliverable}
 use Rattle.needs.specs.Need.{counted, need}
-use Rattle.entries.specs.Fields.{Check, field_checks, first_of}
+use Rattle.entries.specs.Fields.{Check, day_of, field_checks, first_of}
 use Rattle.entries.specs.States.{after}
+use Rattle.entries.specs.declared.entry.DayState.{DayState}
 use Rattle.entries.specs.declared.entry.Entry.{Entry}
 use Rattle.entries.specs.declared.entry.Entry.TheVariants.{Deposit, Withdraw, Register, Market, Close, Regulate, Meter, Evaluate}
 use Rattle.entries.specs.declared.refusal.Refusal.{Refusal}
@@ -22,9 +23,19 @@ abbrev pub first : (ℕ → Bool) → ℕ → ℕ → Option ℕ
 first f a zero = None
 first f a (suc n) = cond (f a) (Some a) (first f (a + 1) n)
 
--- 6: the day's state admits the entry
+-- 6: the day's state admits the entry. None admits an evaluation yet
+abbrev pub admits : DayState → Entry → Bool
+admits s (Deposit party haler) = true
+admits s (Withdraw party haler) = true
+admits s (Register day from to seller buyer kwh) = is_some (after s (Register day from to seller buyer kwh))
+admits s (Market day from to seller buyer kwh price) = is_some (after s (Market day from to seller buyer kwh price))
+admits s (Close day) = is_some (after s (Close day))
+admits s (Regulate day hour party kwh price) = is_some (after s (Regulate day hour party kwh price))
+admits s (Meter day from to party kwh) = is_some (after s (Meter day from to party kwh))
+admits s (Evaluate day stage) = false
+
 abbrev pub state_check : Standing → Entry → ℤ → Check
-state_check v e day = record { fails = not (is_some (after (v.state (index day)) e)); refusal = NotAdmitted (v.state (index day)) }
+state_check v e day = record { fails = not (admits (v.state (index day)) e); refusal = NotAdmitted (v.state (index day)) }
 
 -- 7: no position of seller or buyer passes 499,999 in magnitude; the place is the first hour in which one would
 abbrev pub beyond : Standing → ℤ → ℤ → ℤ → ℤ → ℕ → Bool
@@ -81,14 +92,7 @@ cover_check m v e party = record { fails = not (passes_cover m v e (index party)
 -- Row by row of the table: 6, 7, 8 and 9
 
 abbrev pub state_checks : Standing → Entry → List Check
-state_checks v (Deposit party haler) = []
-state_checks v (Withdraw party haler) = []
-state_checks v (Register day from to seller buyer kwh) = state_check v (Register day from to seller buyer kwh) day ∷ []
-state_checks v (Market day from to seller buyer kwh price) = state_check v (Market day from to seller buyer kwh price) day ∷ []
-state_checks v (Close day) = state_check v (Close day) day ∷ []
-state_checks v (Regulate day hour party kwh price) = state_check v (Regulate day hour party kwh price) day ∷ []
-state_checks v (Meter day from to party kwh) = state_check v (Meter day from to party kwh) day ∷ []
-state_checks v (Evaluate day stage) = record { fails = true; refusal = NotAdmitted (v.state (index day)) } ∷ []
+state_checks v e = map (state_check v e) (day_of e)
 
 abbrev pub kwh_checks : Standing → Entry → List Check
 kwh_checks v (Deposit party haler) = []

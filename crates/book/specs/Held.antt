@@ -1,7 +1,6 @@
 -- What a book holds, and how its figures are read off it. Assumes nothing.
 --
 --   Held             the pages as lists and what is kept beside them, without references
---   held b           those of a book
 --   fits h           the sizes are in range, and every page has its size
 --   cell_at h p d t  where on the page of cells the hour t of day d of party p lies
 --   standing_on h    the figures that the book says
@@ -15,7 +14,6 @@ use Rattle.entries.specs.declared.entry.DayState.{DayState}
 use Rattle.entries.specs.declared.entry.DayState.TheVariants.{Open}
 use Rattle.entries.specs.declared.entry.Sizes.{Sizes}
 use Rattle.book.specs.declared.account.Account.{Account}
-use Rattle.book.specs.declared.book.Book.{Book}
 use Rattle.book.specs.Standing.{Standing}
 
 pub record Held : Type 0 where
@@ -25,9 +23,6 @@ pub record Held : Type 0 where
   pub accounts : List Account
   pub states : List DayState
   pub operator : ℤ
-
-abbrev pub held : {P S : Type 0} → Book P S → Held
-held b = record { sizes = b.sizes; cells = b.pages.cells.now; records = b.pages.records.now; accounts = b.accounts; states = b.states; operator = b.operator }
 
 -- 1 to 20 parties, 1 to 62 days
 abbrev pub sized : Sizes → Bool
@@ -44,8 +39,11 @@ fits h = sized h.sizes && paged h.sizes (length h.cells) (length h.records)
 abbrev pub Sized : Sizes → Type 0
 Sized s = (1 ≤ s.parties) × (s.parties ≤ 20) × (1 ≤ s.days) × (s.days ≤ 62)
 
+abbrev pub Laid : Sizes → ℕ → ℕ → Type 0
+Laid s cells records = Sized s × (cells ≡ s.parties * s.days * 24) × (records ≡ s.days * 24)
+
 abbrev pub Fits : Held → Type 0
-Fits h = Sized h.sizes × (length h.cells ≡ h.sizes.parties * h.sizes.days * 24) × (length h.records ≡ h.sizes.days * 24)
+Fits h = Laid h.sizes (length h.cells) (length h.records)
 
 -- the row of a party on a day: its hours lie side by side
 abbrev pub row_at : Sizes → ℕ → ℕ → ℕ

@@ -2,6 +2,7 @@ pub mod Standing
 pub mod Effects
 pub mod Checks
 pub mod Held
+pub mod Books
 pub mod Posting
 pub mod Opening
 pub mod Sales

@@ -12,7 +12,8 @@ use Rattle.entries.specs.declared.refusal.Refusal.TheVariants.{WrongSize}
 use Rattle.entries.specs.Fields.{between}
 use Rattle.book.specs.declared.book.Book.{Book}
 use Rattle.book.specs.declared.open.Returned.{Returned}
-use Rattle.book.specs.Held.{held, paged}
+use Rattle.book.specs.Books.{held}
+use Rattle.book.specs.Held.{paged}
 use Rattle.book.specs.Posting.{opened}
 
 abbrev pub sizes_of : ℤ → ℤ → Sizes

@@ -23,8 +23,8 @@ use Rattle.entries.specs.declared.entry.Entry.{Entry}
 use Rattle.entries.specs.declared.entry.Entry.TheVariants.{Deposit, Withdraw, Register, Market, Close, Regulate, Meter, Evaluate}
 use Rattle.entries.specs.declared.refusal.Refusal.{Refusal}
 use Rattle.entries.specs.declared.refusal.Refusal.TheVariants.{WrongSize}
-use Rattle.entries.specs.declared.reply.Reply.{Reply}
-use Rattle.entries.specs.declared.reply.Reply.TheVariants.{Accepted, Refused}
+use Rattle.entries.specs.Replies.{Reply}
+use Rattle.entries.specs.declared.reply.Receipt.TheVariants.{Accepted}
 use Rattle.entries.specs.declared.entry.Sizes.{Sizes}
 use Rattle.entries.specs.Fields.{first_of, party_check}
 use Rattle.book.specs.declared.statement.Statement.{Statement}
@@ -111,8 +111,8 @@ afterwards m h e = after_refusal (refusal_on m h e) h (posted h e)
 
 -- what the book replies
 abbrev pub replied_by : Option Refusal → Reply
-replied_by (Some r) = Refused r
-replied_by None = Accepted
+replied_by (Some r) = Err r
+replied_by None = Ok Accepted
 
 abbrev pub reply_on : Terms → Held → Entry → Reply
 reply_on m h e = replied_by (refusal_on m h e)

@@ -6,21 +6,22 @@ ghost use Rattle.hourly.specs.Cells.{read};
 ghost use Rattle.hourly.specs.Records.{deliverable, record_read};
 ghost use Rattle.needs.specs.Need.{need_with};
 ghost use Rattle.cover.specs.Prices.{in_use};
-ghost use Rattle.entries.specs.Fields.{first_of};
+ghost use Rattle.entries.specs.Fields.{checked, verdict};
 ghost use Rattle.entries.specs.Sane.{Numbered, Sane};
-ghost use Rattle.book.specs.Standing.{index, terms};
+ghost use Rattle.book.specs.Standing.{index};
 ghost use Rattle.book.specs.Effects.{paid, side, sold};
-ghost use Rattle.book.specs.Checks.{beyond_of, book_checks, kwh_checks, cash_after, cash_check, cash_checks, cover_check, cover_checks, state_check, need_after, passes_cover, first};
+ghost use Rattle.book.specs.Checks.{beyond_of, kwh_checks, cash_after, cash_check, cash_checks, cover_check, cover_checks, state_check, state_checks, need_after, passes_cover, first};
 ghost use Rattle.book.specs.Sales.{beyond_in, cells_of, sale_of, states_of, trade_of};
-ghost use Rattle.book.specs.Held.{Fits, Sized, fits, held, sized, standing_on};
-ghost use Rattle.book.specs.Posting.{refusal_on, sale};
+ghost use Rattle.book.specs.Held.{standing_on};
+ghost use Rattle.book.specs.Posting.{refusal_on};
+ghost use Rattle.book.specs.Books.{held, terms_by};
 
 mod entering;
 
-use crate::book::Book;
-use crate::{hour_at, hours, index, lies_within, market_cash, minus, row_at};
+use crate::book::{Book, Ledger};
+use crate::{hours, index, lies_within, market_cash, minus};
 use cover::prices::ParametricPrices;
-use entries::entry::{Entry, Sizes};
+use entries::entry::Entry;
 use entries::refusal::Refusal;
 use entries::{check_fields, next_state};
 use hourly::cell::Cell;
@@ -46,28 +47,6 @@ fn sale_cash(seller: i64, buyer: i64, halers: i64, of: usize) -> i64
     ensures few { unsigned_abs result ≤ 1000000000000 }
 {
     side(seller, halers, of) + side(buyer, -halers, of)
-}
-
-// What an entry adds to the cash of a party.
-fn paid(sizes: &Sizes, entry: &Entry, of: usize) -> i64
-    requires { Sane sizes.now entry.now }
-    ensures value { result ≡ paid entry.now of }
-    ensures few { unsigned_abs result ≤ 1000000000000 }
-{
-    match *entry {
-        Entry::Deposit { party, haler } => side(party, haler, of),
-        Entry::Withdraw { party, haler } => side(party, -haler, of),
-        Entry::Market {
-            from,
-            to,
-            seller,
-            buyer,
-            kwh,
-            price,
-            ..
-        } => sale_cash(seller, buyer, market_cash(from, to, kwh, price), of),
-        _ => 0,
-    }
 }
 
 // The position of a cell that lies as plain numbers.
@@ -115,55 +94,6 @@ struct Sale {
     kwh: i64,
 }
 
-// Where the sale of an entry lies on the page of cells.
-fn sale_of(sizes: &Sizes, entry: &Entry) -> Sale
-    requires sized { Sized sizes.now }
-    requires sane { Sane sizes.now entry.now }
-    ensures value { result ≡ sale_of sizes.now entry.now }
-    ensures kwh { unsigned_abs result.kwh ≤ 499000 }
-    ensures seller { result.seller + (result.from + result.hours) ≤ sizes.now.parties * sizes.now.days * 24 }
-    ensures buyer { result.buyer + (result.from + result.hours) ≤ sizes.now.parties * sizes.now.days * 24 }
-{
-    match *entry {
-        Entry::Register {
-            day,
-            from,
-            to,
-            seller,
-            buyer,
-            kwh,
-        } => Sale {
-            seller: row_at(sizes, index(seller), index(day)),
-            buyer: row_at(sizes, index(buyer), index(day)),
-            from: index(from),
-            hours: hours(from, to) as usize,
-            kwh,
-        },
-        Entry::Market {
-            day,
-            from,
-            to,
-            seller,
-            buyer,
-            kwh,
-            ..
-        } => Sale {
-            seller: row_at(sizes, index(seller), index(day)),
-            buyer: row_at(sizes, index(buyer), index(day)),
-            from: index(from),
-            hours: hours(from, to) as usize,
-            kwh,
-        },
-        _ => Sale {
-            seller: 0,
-            buyer: 0,
-            from: 0,
-            hours: 0,
-            kwh: 0,
-        },
-    }
-}
-
 // The first hour in which a sale would take a position beyond its limit.
 fn first_beyond(cells: &[PlainCell], sale: &Sale) -> Option<usize>
     requires kwh { unsigned_abs sale.now.kwh ≤ 499000 }
@@ -188,10 +118,7 @@ fn first_beyond(cells: &[PlainCell], sale: &Sale) -> Option<usize>
 fn has_room_for(lying: &PlainRecord, kwh: i64, price: i64) -> bool
     ensures { result ≡ deliverable (record_read lying.now) kwh price }
 {
-    match HourRecord::from_plain(lying).deliver(kwh, price) {
-        Some(_) => true,
-        None => false,
-    }
+    HourRecord::from_plain(lying).deliver(kwh, price).is_some()
 }
 
 // The kWh that a sale adds to the position of a party.
@@ -207,221 +134,157 @@ fn sold(seller: i64, buyer: i64, kwh: i64, of: usize) -> i64
     side(buyer, minus(kwh), of)
 }
 
-// What an entry trades of a party, as a run of the party's own cells.
-fn trade_of(sizes: &Sizes, entry: &Entry, of: usize) -> Trade
-    requires sized { Sized sizes.now }
-    requires sane { Sane sizes.now entry.now }
-    ensures value { result ≡ trade_of entry.now of }
-    ensures few { unsigned_abs result.kwh ≤ 499000 }
-{
-    match *entry {
-        Entry::Register {
-            day,
-            from,
-            to,
-            seller,
-            buyer,
-            kwh,
-        } => {
-            let start = hour_at(sizes, day, from);
-            let end = start + hours(from, to) as usize;
-            Trade {
-                start,
-                end,
-                kwh: sold(seller, buyer, kwh, of),
-            }
-        }
-        Entry::Market {
-            day,
-            from,
-            to,
-            seller,
-            buyer,
-            kwh,
-            ..
-        } => {
-            let start = hour_at(sizes, day, from);
-            let end = start + hours(from, to) as usize;
-            Trade {
-                start,
-                end,
-                kwh: sold(seller, buyer, kwh, of),
-            }
-        }
-        _ => Trade {
-            start: 0,
-            end: 0,
-            kwh: 0,
-        },
-    }
-}
-
-impl<P, S> Book<'_, P, S> {
-    // The refusal of an entry that the state of its day does not admit.
-    fn not_admitted(&self, entry: &Entry, day: i64) -> Option<Refusal>
-        ensures { result ≡ first_of (state_check (standing_on (held self.now)) entry.now day ∷ []) }
+impl Ledger<'_> {
+    // What an entry adds to the cash of a party.
+    fn paid(&self, entry: &Entry, of: usize) -> i64
+        requires { Sane self.now.sizes entry.now }
+        ensures value { result ≡ paid entry.now of }
+        ensures few { unsigned_abs result ≤ 1000000000000 }
     {
-        match next_state(self.state(index(day)), entry) {
-            Ok(_) => None,
-            Err(refusal) => Some(refusal),
+        match *entry {
+            Entry::Deposit { party, haler } => side(party, haler, of),
+            Entry::Withdraw { party, haler } => side(party, -haler, of),
+            Entry::Market {
+                from,
+                to,
+                seller,
+                buyer,
+                kwh,
+                price,
+                ..
+            } => sale_cash(seller, buyer, market_cash(from, to, kwh, price), of),
+            _ => 0,
+        }
+    }
+
+    // Where the sale of an entry lies on the page of cells.
+    fn sale_of(&self, entry: &Entry) -> Sale
+        requires { Sane self.now.sizes entry.now }
+        ensures value { result ≡ sale_of self.now.sizes entry.now }
+        ensures kwh { unsigned_abs result.kwh ≤ 499000 }
+        ensures seller { result.seller + (result.from + result.hours) ≤ length self.now.cells }
+        ensures buyer { result.buyer + (result.from + result.hours) ≤ length self.now.cells }
+    {
+        match entry {
+            Entry::Register {
+                day,
+                from,
+                to,
+                seller,
+                buyer,
+                kwh,
+            }
+            | Entry::Market {
+                day,
+                from,
+                to,
+                seller,
+                buyer,
+                kwh,
+                ..
+            } => Sale {
+                seller: self.row_at(index(*seller), index(*day)),
+                buyer: self.row_at(index(*buyer), index(*day)),
+                from: index(*from),
+                hours: hours(*from, *to) as usize,
+                kwh: *kwh,
+            },
+            _ => Sale {
+                seller: 0,
+                buyer: 0,
+                from: 0,
+                hours: 0,
+                kwh: 0,
+            },
+        }
+    }
+
+    // What an entry trades of a party, as a run of the party's own cells.
+    fn trade_of(&self, entry: &Entry, of: usize) -> Trade
+        requires { Sane self.now.sizes entry.now }
+        ensures value { result ≡ trade_of entry.now of }
+        ensures few { unsigned_abs result.kwh ≤ 499000 }
+    {
+        match entry {
+            Entry::Register {
+                day,
+                from,
+                to,
+                seller,
+                buyer,
+                kwh,
+            }
+            | Entry::Market {
+                day,
+                from,
+                to,
+                seller,
+                buyer,
+                kwh,
+                ..
+            } => {
+                let start = self.hour_at(*day, *from);
+                let end = start + hours(*from, *to) as usize;
+                Trade {
+                    start,
+                    end,
+                    kwh: sold(*seller, *buyer, *kwh, of),
+                }
+            }
+            _ => Trade {
+                start: 0,
+                end: 0,
+                kwh: 0,
+            },
+        }
+    }
+
+    // Row 6 on its day. No state admits an evaluation yet.
+    fn check_admitted(&self, entry: &Entry, day: i64) -> Result<(), Refusal>
+        ensures { result ≡ checked (state_check (standing_on self.now) entry.now day ∷ []) }
+    {
+        let state = self.state(index(day));
+        if let Entry::Evaluate { .. } = entry {
+            return Err(Refusal::NotAdmitted { state });
+        }
+        next_state(state, entry)?;
+        Ok(())
+    }
+
+    // Row 6 of the table of refusals.
+    fn check_state(&self, entry: &Entry) -> Result<(), Refusal>
+        ensures { result ≡ checked (state_checks (standing_on self.now) entry.now) }
+    {
+        match entry.day() {
+            Some(day) => self.check_admitted(entry, day),
+            None => Ok(()),
         }
     }
 
     // Whether the record of an hour has room for a delivery.
     fn has_place(&self, day: i64, hour: i64, kwh: i64, price: i64) -> bool
-        requires fits { Fits (held self.now) }
         requires known { (Numbered self.now.sizes.days day) × (Numbered 24 hour) }
-        ensures { result ≡ deliverable ((standing_on (held self.now)).deliveries (index day) (index hour)) kwh price }
+        ensures { result ≡ deliverable ((standing_on self.now).deliveries (index day) (index hour)) kwh price }
     {
-        let at = hour_at(&self.sizes, day, hour);
+        let at = self.hour_at(day, hour);
         let lying = self.pages.records[at];
         has_room_for(&lying, kwh, price)
     }
 
     // The first hour, by its number, in which the sale of an entry would take a position beyond its limit.
     fn beyond_hour(&self, entry: &Entry) -> Option<i64>
-        requires fits { Fits (held self.now) }
-        requires sane { Sane self.now.sizes entry.now }
-        ensures { result ≡ option_map (λ (t : ℕ). pos (t + 1)) (beyond_of (standing_on (held self.now)) entry.now) }
+        requires { Sane self.now.sizes entry.now }
+        ensures { result ≡ option_map (λ (t : ℕ). pos (t + 1)) (beyond_of (standing_on self.now) entry.now) }
     {
-        let sale = sale_of(&self.sizes, entry);
+        let sale = self.sale_of(entry);
         let cells = &*self.pages.cells;
-        match first_beyond(cells, &sale) {
-            Some(hour) => Some(hour as i64 + 1),
-            None => None,
-        }
+        first_beyond(cells, &sale).map(|hour| hour as i64 + 1)
     }
 
-    // A party's cash after an entry.
-    fn cash_after(&self, entry: &Entry, of: usize) -> i64
+    // Row 7.
+    fn check_kwh(&self, entry: &Entry) -> Result<(), Refusal>
         requires { Sane self.now.sizes entry.now }
-        ensures value { result ≡ cash_after (standing_on (held self.now)) entry.now of }
-        ensures few { unsigned_abs result ≤ 100001000000000000 }
-    {
-        self.account(of).cash + paid(&self.sizes, entry, of)
-    }
-
-    // Whether an entry would take a party's cash beyond its limit.
-    fn cash_beyond(&self, entry: &Entry, party: i64) -> bool
-        requires { Sane self.now.sizes entry.now }
-        ensures { result ≡ (cash_check (standing_on (held self.now)) entry.now party).fails }
-    {
-        !lies_within(
-            100_000_000_000_000_000,
-            self.cash_after(entry, index(party)),
-        )
-    }
-}
-
-impl<P: Pricing, S: Sharing> Book<'_, P, S> {
-    // What a party needs after a trade.
-    fn need_with_trade(&self, party: usize, trade: &Trade) -> i64
-        requires fits { Fits (held self.now) }
-        requires known { party < self.now.sizes.parties }
-        requires few { unsigned_abs trade.now.kwh ≤ 499000 }
-        ensures long { length (states_of (held self.now)) ≡ self.now.sizes.days }
-        ensures value { result ≡ pos (need_with in_use (states_of (held self.now)) (cells_of (held self.now) party) trade.now.start trade.now.end trade.now.kwh) }
-    {
-        let prices = ParametricPrices::in_use();
-        match need_with(&prices, self.day_states(), self.cells_of(party), trade) {
-            Some(need) => need,
-            None => unreachable(),
-        }
-    }
-
-    // What a party needs after an entry.
-    fn need_after(&self, entry: &Entry, party: usize) -> i64
-        requires fits { Fits (held self.now) }
-        requires sane { Sane self.now.sizes entry.now }
-        requires known { party < self.now.sizes.parties }
-        ensures value { result ≡ pos (need_after (terms self.now.sizes (P.Pricing.map self.now.pricing) (S.Sharing.map self.now.sharing)) (standing_on (held self.now)) entry.now party) }
-    {
-        let trade = trade_of(&self.sizes, entry, party);
-        self.need_with_trade(party, &trade)
-    }
-
-    // A party's balance after an entry.
-    fn balance_after(&self, entry: &Entry, party: usize) -> i64
-        requires sane { Sane self.now.sizes entry.now }
-        ensures value { result ≡ cash_after (standing_on (held self.now)) entry.now party +ℤ ((standing_on (held self.now)).account party).settled }
-    {
-        self.cash_after(entry, party) + self.account(party).settled
-    }
-
-    // Whether an entry leaves a party covered.
-    fn leaves_covered(&self, entry: &Entry, party: usize) -> bool
-        requires fits { Fits (held self.now) }
-        requires sane { Sane self.now.sizes entry.now }
-        requires known { party < self.now.sizes.parties }
-        ensures { result ≡ passes_cover (terms self.now.sizes (P.Pricing.map self.now.pricing) (S.Sharing.map self.now.sharing)) (standing_on (held self.now)) entry.now party }
-    {
-        self.need_after(entry, party) <= self.balance_after(entry, party)
-    }
-
-    // Whether an entry leaves a party without cover.
-    fn uncovered(&self, entry: &Entry, party: i64) -> bool
-        requires fits { Fits (held self.now) }
-        requires sane { Sane self.now.sizes entry.now }
-        requires known { Numbered self.now.sizes.parties party }
-        ensures { result ≡ (cover_check (terms self.now.sizes (P.Pricing.map self.now.pricing) (S.Sharing.map self.now.sharing)) (standing_on (held self.now)) entry.now party).fails }
-    {
-        !self.leaves_covered(entry, index(party))
-    }
-
-    // Row 9 of the table of refusals.
-    fn from_cover(&self, entry: &Entry) -> Option<Refusal>
-        requires fits { Fits (held self.now) }
-        requires sane { Sane self.now.sizes entry.now }
-        ensures { result ≡ first_of (cover_checks (terms self.now.sizes (P.Pricing.map self.now.pricing) (S.Sharing.map self.now.sharing)) (standing_on (held self.now)) entry.now) }
-    {
-        match *entry {
-            Entry::Withdraw { party, .. } if self.uncovered(entry, party) => Some(
-                Refusal::NotCovered { party },
-            ),
-            Entry::Register { seller, .. } if self.uncovered(entry, seller) => Some(
-                Refusal::NotCovered { party: seller },
-            ),
-            Entry::Market { seller, .. } if self.uncovered(entry, seller) => Some(
-                Refusal::NotCovered { party: seller },
-            ),
-            Entry::Register { buyer, .. } if self.uncovered(entry, buyer) => Some(
-                Refusal::NotCovered { party: buyer },
-            ),
-            Entry::Market { buyer, .. } if self.uncovered(entry, buyer) => Some(
-                Refusal::NotCovered { party: buyer },
-            ),
-            _ => None,
-        }
-    }
-
-    // Rows 8 and 9.
-    fn from_cash(&self, entry: &Entry) -> Option<Refusal>
-        requires fits { Fits (held self.now) }
-        requires sane { Sane self.now.sizes entry.now }
-        ensures { result ≡ first_of (cash_checks (standing_on (held self.now)) entry.now ++ cover_checks (terms self.now.sizes (P.Pricing.map self.now.pricing) (S.Sharing.map self.now.sharing)) (standing_on (held self.now)) entry.now) }
-    {
-        match *entry {
-            Entry::Deposit { party, .. } if self.cash_beyond(entry, party) => Some(
-                Refusal::CashBeyond { party },
-            ),
-            Entry::Withdraw { party, .. } if self.cash_beyond(entry, party) => Some(
-                Refusal::CashBeyond { party },
-            ),
-            Entry::Market { seller, .. } if self.cash_beyond(entry, seller) => Some(
-                Refusal::CashBeyond { party: seller },
-            ),
-            Entry::Market { buyer, .. } if self.cash_beyond(entry, buyer) => Some(
-                Refusal::CashBeyond { party: buyer },
-            ),
-            _ => self.from_cover(entry),
-        }
-    }
-
-    // Rows 7 to 9.
-    fn from_kwh(&self, entry: &Entry) -> Option<Refusal>
-        requires fits { Fits (held self.now) }
-        requires sane { Sane self.now.sizes entry.now }
-        ensures { result ≡ first_of (kwh_checks (standing_on (held self.now)) entry.now ++ (cash_checks (standing_on (held self.now)) entry.now ++ cover_checks (terms self.now.sizes (P.Pricing.map self.now.pricing) (S.Sharing.map self.now.sharing)) (standing_on (held self.now)) entry.now)) }
+        ensures { result ≡ checked (kwh_checks (standing_on self.now) entry.now) }
     {
         if let Entry::Regulate {
             day,
@@ -432,56 +295,151 @@ impl<P: Pricing, S: Sharing> Book<'_, P, S> {
         } = *entry
         {
             if !self.has_place(day, hour, kwh, price) {
-                return Some(Refusal::KwhBeyond { hour });
+                return Err(Refusal::KwhBeyond { hour });
             }
         }
         match self.beyond_hour(entry) {
-            Some(hour) => Some(Refusal::KwhBeyond { hour }),
-            None => self.from_cash(entry),
+            Some(hour) => Err(Refusal::KwhBeyond { hour }),
+            None => Ok(()),
         }
     }
 
-    // Rows 6 to 9 of an entry on a day.
-    fn from_day(&self, entry: &Entry, day: i64) -> Option<Refusal>
-        requires fits { Fits (held self.now) }
-        requires sane { Sane self.now.sizes entry.now }
-        ensures { result ≡ first_of ((state_check (standing_on (held self.now)) entry.now day ∷ []) ++ (kwh_checks (standing_on (held self.now)) entry.now ++ (cash_checks (standing_on (held self.now)) entry.now ++ cover_checks (terms self.now.sizes (P.Pricing.map self.now.pricing) (S.Sharing.map self.now.sharing)) (standing_on (held self.now)) entry.now))) }
+    // A party's cash after an entry.
+    fn cash_after(&self, entry: &Entry, of: usize) -> i64
+        requires { Sane self.now.sizes entry.now }
+        ensures value { result ≡ cash_after (standing_on self.now) entry.now of }
+        ensures few { unsigned_abs result ≤ 100001000000000000 }
     {
-        match self.not_admitted(entry, day) {
-            Some(refusal) => Some(refusal),
-            None => self.from_kwh(entry),
+        self.account(of).cash + self.paid(entry, of)
+    }
+
+    // Whether an entry would take a party's cash beyond its limit.
+    fn cash_beyond(&self, entry: &Entry, party: i64) -> bool
+        requires { Sane self.now.sizes entry.now }
+        ensures { result ≡ (cash_check (standing_on self.now) entry.now party).fails }
+    {
+        !lies_within(
+            100_000_000_000_000_000,
+            self.cash_after(entry, index(party)),
+        )
+    }
+
+    // Row 8 of one party.
+    fn check_cash_of(&self, entry: &Entry, party: i64) -> Result<(), Refusal>
+        requires { Sane self.now.sizes entry.now }
+        ensures { result ≡ checked (cash_check (standing_on self.now) entry.now party ∷ []) }
+    {
+        if self.cash_beyond(entry, party) {
+            return Err(Refusal::CashBeyond { party });
+        }
+        Ok(())
+    }
+
+    // Row 8.
+    fn check_cash(&self, entry: &Entry) -> Result<(), Refusal>
+        requires { Sane self.now.sizes entry.now }
+        ensures { result ≡ checked (cash_checks (standing_on self.now) entry.now) }
+    {
+        match entry {
+            Entry::Deposit { party, .. } | Entry::Withdraw { party, .. } => {
+                self.check_cash_of(entry, *party)
+            }
+            Entry::Market { seller, buyer, .. } => {
+                self.check_cash_of(entry, *seller)?;
+                self.check_cash_of(entry, *buyer)
+            }
+            _ => Ok(()),
         }
     }
 
-    // Rows 6 to 9.
-    fn from_state(&self, entry: &Entry) -> Option<Refusal>
-        requires fits { Fits (held self.now) }
-        requires sane { Sane self.now.sizes entry.now }
-        ensures { result ≡ first_of (book_checks (terms self.now.sizes (P.Pricing.map self.now.pricing) (S.Sharing.map self.now.sharing)) (standing_on (held self.now)) entry.now) }
+    // What a party needs after a trade.
+    fn need_with_trade(&self, party: usize, trade: &Trade) -> i64
+        requires known { party < self.now.sizes.parties }
+        requires few { unsigned_abs trade.now.kwh ≤ 499000 }
+        ensures long { length (states_of self.now) ≡ self.now.sizes.days }
+        ensures value { result ≡ pos (need_with in_use (states_of self.now) (cells_of self.now party) trade.now.start trade.now.end trade.now.kwh) }
     {
-        match *entry {
-            Entry::Register { day, .. } => self.from_day(entry, day),
-            Entry::Market { day, .. } => self.from_day(entry, day),
-            Entry::Close { day } => self.from_day(entry, day),
-            Entry::Regulate { day, .. } => self.from_day(entry, day),
-            Entry::Meter { day, .. } => self.from_day(entry, day),
-            Entry::Evaluate { day, .. } => Some(Refusal::NotAdmitted {
-                state: self.state(index(day)),
-            }),
-            _ => self.from_kwh(entry),
+        let prices = ParametricPrices::in_use();
+        match need_with(&prices, self.day_states(), self.cells_of(party), trade) {
+            Some(need) => need,
+            None => unreachable(),
+        }
+    }
+
+    // A party's balance after an entry.
+    fn balance_after(&self, entry: &Entry, party: usize) -> i64
+        requires sane { Sane self.now.sizes entry.now }
+        ensures value { result ≡ cash_after (standing_on self.now) entry.now party +ℤ ((standing_on self.now).account party).settled }
+    {
+        self.cash_after(entry, party) + self.account(party).settled
+    }
+}
+
+impl<P: Pricing, S: Sharing> Book<'_, P, S> {
+    // What a party needs after an entry.
+    fn need_after(&self, entry: &Entry, party: usize) -> i64
+        requires sane { Sane self.now.ledger.sizes entry.now }
+        requires known { party < self.now.ledger.sizes.parties }
+        ensures value { result ≡ pos (need_after (terms_by P.Pricing.map S.Sharing.map self.now) (standing_on (held self.now)) entry.now party) }
+    {
+        let trade = self.ledger.trade_of(entry, party);
+        self.ledger.need_with_trade(party, &trade)
+    }
+
+    // Whether an entry leaves a party covered.
+    fn leaves_covered(&self, entry: &Entry, party: usize) -> bool
+        requires sane { Sane self.now.ledger.sizes entry.now }
+        requires known { party < self.now.ledger.sizes.parties }
+        ensures { result ≡ passes_cover (terms_by P.Pricing.map S.Sharing.map self.now) (standing_on (held self.now)) entry.now party }
+    {
+        self.need_after(entry, party) <= self.ledger.balance_after(entry, party)
+    }
+
+    // Whether an entry leaves a party without cover.
+    fn uncovered(&self, entry: &Entry, party: i64) -> bool
+        requires sane { Sane self.now.ledger.sizes entry.now }
+        requires known { Numbered self.now.ledger.sizes.parties party }
+        ensures { result ≡ (cover_check (terms_by P.Pricing.map S.Sharing.map self.now) (standing_on (held self.now)) entry.now party).fails }
+    {
+        !self.leaves_covered(entry, index(party))
+    }
+
+    // Row 9 of one party.
+    fn check_cover_of(&self, entry: &Entry, party: i64) -> Result<(), Refusal>
+        requires sane { Sane self.now.ledger.sizes entry.now }
+        requires known { Numbered self.now.ledger.sizes.parties party }
+        ensures { result ≡ checked (cover_check (terms_by P.Pricing.map S.Sharing.map self.now) (standing_on (held self.now)) entry.now party ∷ []) }
+    {
+        if self.uncovered(entry, party) {
+            return Err(Refusal::NotCovered { party });
+        }
+        Ok(())
+    }
+
+    // Row 9 of the table of refusals.
+    fn check_cover(&self, entry: &Entry) -> Result<(), Refusal>
+        requires { Sane self.now.ledger.sizes entry.now }
+        ensures { result ≡ checked (cover_checks (terms_by P.Pricing.map S.Sharing.map self.now) (standing_on (held self.now)) entry.now) }
+    {
+        match entry {
+            Entry::Withdraw { party, .. } => self.check_cover_of(entry, *party),
+            Entry::Register { seller, buyer, .. } | Entry::Market { seller, buyer, .. } => {
+                self.check_cover_of(entry, *seller)?;
+                self.check_cover_of(entry, *buyer)
+            }
+            _ => Ok(()),
         }
     }
 
     // The first refusal of the table that an entry meets, if any.
-    fn refusal(&self, entry: &Entry) -> Option<Refusal>
-        ensures { result ≡ refusal_on (terms self.now.sizes (P.Pricing.map self.now.pricing) (S.Sharing.map self.now.sharing)) (held self.now) entry.now }
+    fn check(&self, entry: &Entry) -> Result<(), Refusal>
+        ensures { result ≡ verdict (refusal_on (terms_by P.Pricing.map S.Sharing.map self.now) (held self.now) entry.now) }
     {
-        if !self.fits() {
-            return Some(Refusal::WrongSize);
-        }
-        match check_fields(&self.sizes, entry) {
-            Some(refusal) => Some(refusal),
-            None => self.from_state(entry),
-        }
+        let sizes = self.ledger.sizes();
+        check_fields(&sizes, entry)?;
+        self.ledger.check_state(entry)?;
+        self.ledger.check_kwh(entry)?;
+        self.ledger.check_cash(entry)?;
+        self.check_cover(entry)
     }
 }

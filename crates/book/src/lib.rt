@@ -7,13 +7,12 @@ ghost use Rattle.hourly.specs.Bounds.{within};
 ghost use Rattle.hourly.specs.Records.{deliverable, delivered, no_deliveries, record_plain, record_read};
 ghost use Rattle.rows.specs.Changes.{metered, regulated, relaid, shifted};
 ghost use Rattle.entries.specs.declared.entry.Entry.TheVariants.{Regulate};
-ghost use Rattle.entries.specs.declared.entry.Entry.TheVariants.{Regulate};
 ghost use Rattle.entries.specs.Sane.{Numbered, Ranged, Sane};
 ghost use Rattle.entries.specs.States.{after};
 ghost use Rattle.book.specs.Standing.{hours, index};
 ghost use Rattle.book.specs.Effects.{market_cash};
 ghost use Rattle.book.specs.Sales.{cells_of, states_of};
-ghost use Rattle.book.specs.Held.{Fits, Sized, account_read, cell_at, fits, held, paged, row_at, sized, standing_on};
+ghost use Rattle.book.specs.Held.{Fits, account_read, cell_at, row_at, standing_on};
 ghost use Rattle.book.specs.Posting.{Room, changed, credited, in_row, moved_on, posted, recorded, sale, with_accounts, with_cash, with_cells, with_records, with_states};
 
 pub mod account;
@@ -26,7 +25,7 @@ pub mod statement;
 mod statements;
 
 use account::Account;
-use book::Book;
+use book::Ledger;
 use entries::entry::{DayState, Entry, Sizes};
 use entries::next_state;
 use hourly::plain::{PlainCell, PlainRecord};
@@ -55,21 +54,6 @@ fn lies_within(limit: u64, number: i64) -> bool
     ensures { result ≡ within limit number }
 {
     number.unsigned_abs() <= limit
-}
-
-// Whether there are 1 to 20 parties and 1 to 62 days.
-fn sized(sizes: &Sizes) -> bool
-    ensures { result ≡ sized sizes.now }
-{
-    1 <= sizes.parties && sizes.parties <= 20 && (1 <= sizes.days && sizes.days <= 62)
-}
-
-// Whether the pages have the sizes that these parties and days ask for.
-fn paged(sizes: &Sizes, cells: usize, records: usize) -> bool
-    ensures { result ≡ paged sizes.now cells records }
-{
-    let hours = sizes.days as usize * 24;
-    cells == sizes.parties as usize * hours && records == hours
 }
 
 // An account whose numbers are in bounds, or one without money.
@@ -119,47 +103,6 @@ fn market_cash(from: i64, to: i64, kwh: i64, price: i64) -> i64
         Some(halers) => halers,
         None => unreachable(),
     }
-}
-
-// Where an hour of a day lies among those of a party, or among the records.
-fn hour_at(sizes: &Sizes, day: i64, hour: i64) -> usize
-    requires sized { Sized sizes.now }
-    requires known { (index day < sizes.now.days) × (index hour < 24) }
-    ensures value { result ≡ index day * 24 + index hour }
-    ensures few { result < 1488 }
-    ensures inside { result < sizes.now.days * 24 }
-{
-    index(day) * 24 + index(hour)
-}
-
-// Where the cells of a party begin.
-fn party_at(sizes: &Sizes, party: usize) -> usize
-    requires sized { Sized sizes.now }
-    requires known { party < sizes.now.parties }
-    ensures value { result ≡ party * (sizes.now.days * 24) }
-    ensures inside { result + sizes.now.days * 24 ≤ sizes.now.parties * sizes.now.days * 24 }
-{
-    party * (sizes.days as usize * 24)
-}
-
-// Where a party's row of a day begins.
-fn row_at(sizes: &Sizes, party: usize, day: usize) -> usize
-    requires sized { Sized sizes.now }
-    requires known { (party < sizes.now.parties) × (day < sizes.now.days) }
-    ensures value { result ≡ row_at sizes.now party day }
-    ensures inside { result + 24 ≤ sizes.now.parties * sizes.now.days * 24 }
-{
-    party_at(sizes, party) + day * 24
-}
-
-// Where an hour of a party's day lies on the page of cells.
-fn place_at(sizes: &Sizes, party: i64, day: i64, hour: i64) -> usize
-    requires sized { Sized sizes.now }
-    requires known { (Numbered sizes.now.parties party) × ((Numbered sizes.now.days day) × (Numbered 24 hour)) }
-    ensures value { result ≡ cell_at sizes.now (index party) (index day) (index hour) }
-    ensures inside { result + (25 - unsigned_abs hour) ≤ sizes.now.parties * sizes.now.days * 24 }
-{
-    row_at(sizes, index(party), index(day)) + index(hour)
 }
 
 // The state of a day after an entry: as it was where it does not admit the entry.
@@ -216,14 +159,106 @@ impl Pages<'_> {
     }
 }
 
-impl<P, S> Book<'_, P, S> {
+impl Ledger<'_> {
+    // How many parties and days there are; every page has its size.
+    fn sizes(&self) -> Sizes
+        ensures value { result ≡ self.now.sizes }
+        ensures fits { Fits self.now }
+    {
+        self.sizes
+    }
+
+    // Where an hour of a day lies among those of a party, or among the records.
+    fn hour_at(&self, day: i64, hour: i64) -> usize
+        requires { (index day < self.now.sizes.days) × (index hour < 24) }
+        ensures value { result ≡ index day * 24 + index hour }
+        ensures few { result < 1488 }
+        ensures inside { result < length self.now.records }
+    {
+        let _ = &self.sizes;
+        index(day) * 24 + index(hour)
+    }
+
+    // Where the cells of a party begin.
+    fn party_at(&self, party: usize) -> usize
+        requires { party < self.now.sizes.parties }
+        ensures value { result ≡ party * (self.now.sizes.days * 24) }
+        ensures inside { result + self.now.sizes.days * 24 ≤ length self.now.cells }
+        ensures few { result + self.now.sizes.days * 24 ≤ 29760 }
+    {
+        party * (self.sizes.days as usize * 24)
+    }
+
+    // Where a party's row of a day begins.
+    fn row_at(&self, party: usize, day: usize) -> usize
+        requires { (party < self.now.sizes.parties) × (day < self.now.sizes.days) }
+        ensures value { result ≡ row_at self.now.sizes party day }
+        ensures inside { result + 24 ≤ length self.now.cells }
+        ensures few { result + 24 ≤ 29760 }
+    {
+        self.party_at(party) + day * 24
+    }
+
+    // Where an hour of a party's day lies on the page of cells.
+    fn place_at(&self, party: i64, day: i64, hour: i64) -> usize
+        requires { (Numbered self.now.sizes.parties party) × ((Numbered self.now.sizes.days day) × (Numbered 24 hour)) }
+        ensures value { result ≡ cell_at self.now.sizes (index party) (index day) (index hour) }
+        ensures inside { result + (25 - unsigned_abs hour) ≤ length self.now.cells }
+    {
+        self.row_at(index(party), index(day)) + index(hour)
+    }
+
+    // The account of a party.
+    fn account(&self, of: usize) -> Account
+        ensures value { result ≡ (standing_on self.now).account of }
+        ensures cash { unsigned_abs result.cash ≤ 100000000000000000 }
+        ensures settled { unsigned_abs result.settled ≤ 937440000000000 }
+    {
+        match self.accounts.get(of) {
+            Some(account) => read_account(account),
+            None => Account {
+                cash: 0,
+                settled: 0,
+            },
+        }
+    }
+
+    // The state of a day.
+    fn state(&self, day: usize) -> DayState
+        ensures { result ≡ (standing_on self.now).state day }
+    {
+        match self.states.get(day) {
+            Some(state) => *state,
+            None => DayState::Open,
+        }
+    }
+
+    // The cells of a party, day by day.
+    fn cells_of(&self, party: usize) -> &[PlainCell]
+        requires known { party < self.now.sizes.parties }
+        ensures value { result.now ≡ cells_of self.now party }
+        ensures size { length result.now ≡ self.now.sizes.days * 24 }
+    {
+        let start = self.party_at(party);
+        &self.pages.cells[start..start + self.sizes.days as usize * 24]
+    }
+
+    // The states of the book's days.
+    fn day_states(&self) -> &[DayState]
+        ensures value { result.now ≡ states_of self.now }
+        ensures size { length result.now ≡ self.now.sizes.days }
+        ensures few { (1 ≤ length result.now) × (length result.now ≤ 62) }
+    {
+        &self.states[0..self.sizes.days as usize]
+    }
+}
+
+impl Ledger<'_> {
     // Adds halers to the cash of a party.
     fn credit(&mut self, party: i64, halers: i64)
-        requires known { unsigned_abs party ≤ 20 }
+        requires known { Numbered self.old.sizes.parties party }
         requires few { unsigned_abs halers ≤ 1000000000000 }
-        ensures held { held self.new ≡ with_accounts (held self.old) (credited party halers (held self.old).accounts) }
-        ensures pricing { self.new.pricing ≡ self.old.pricing }
-        ensures sharing { self.new.sharing ≡ self.old.sharing }
+        ensures { self.new ≡ with_accounts self.old (credited party halers self.old.accounts) }
     {
         let at = index(party);
         let account = self.account(at);
@@ -232,10 +267,8 @@ impl<P, S> Book<'_, P, S> {
 
     // Moves a day on by an entry.
     fn move_on(&mut self, entry: &Entry, day: i64)
-        requires known { unsigned_abs day ≤ 62 }
-        ensures held { held self.new ≡ with_states (held self.old) (moved_on (held self.old) entry.now day) }
-        ensures pricing { self.new.pricing ≡ self.old.pricing }
-        ensures sharing { self.new.sharing ≡ self.old.sharing }
+        requires { Numbered self.old.sizes.days day }
+        ensures { self.new ≡ with_states self.old (moved_on self.old entry.now day) }
     {
         let at = index(day);
         let state = self.states[at];
@@ -244,39 +277,28 @@ impl<P, S> Book<'_, P, S> {
 
     // Adds a delivery to the record of its hour.
     fn deliver(&mut self, day: i64, hour: i64, kwh: i64, price: i64)
-        requires fits { Fits (held self.old) }
         requires known { (Numbered self.old.sizes.days day) × (Numbered 24 hour) }
-        requires room { deliverable ((standing_on (held self.old)).deliveries (index day) (index hour)) kwh price ≡ true }
-        ensures held { held self.new ≡ with_records (held self.old) (recorded (held self.old) day hour kwh price) }
-        ensures pricing { self.new.pricing ≡ self.old.pricing }
-        ensures sharing { self.new.sharing ≡ self.old.sharing }
+        requires room { deliverable ((standing_on self.old).deliveries (index day) (index hour)) kwh price ≡ true }
+        ensures { self.new ≡ with_records self.old (recorded self.old day hour kwh price) }
     {
-        let at = hour_at(&self.sizes, day, hour);
+        let at = self.hour_at(day, hour);
         self.pages.deliver(at, kwh, price);
     }
 
     // Changes some hours of a party's row of a day.
     fn change_hours<C: Change>(&mut self, party: i64, day: i64, from: i64, to: i64, change: &C)
-        requires fits { Fits (held self.old) }
         requires known { (Numbered self.old.sizes.parties party) × ((Numbered self.old.sizes.days day) × (Ranged from to)) }
-        ensures held { held self.new ≡ with_cells (held self.old) (in_row (held self.old) party day from to (C.Change.change change.now) (held self.old).cells) }
-        ensures fits { Fits (held self.new) }
-        ensures pricing { self.new.pricing ≡ self.old.pricing }
-        ensures sharing { self.new.sharing ≡ self.old.sharing }
+        ensures written { self.new ≡ with_cells self.old (in_row self.old party day from to (C.Change.change change.now) self.old.cells) }
     {
-        let start = place_at(&self.sizes, party, day, from);
+        let start = self.place_at(party, day, from);
         self.pages.change(start, hours(from, to) as usize, change);
     }
 
     // Adds kWh to the positions of some hours.
     fn shift_hours(&mut self, party: i64, day: i64, from: i64, to: i64, kwh: i64)
-        requires fits { Fits (held self.old) }
         requires known { (Numbered self.old.sizes.parties party) × ((Numbered self.old.sizes.days day) × (Ranged from to)) }
         requires few { unsigned_abs kwh ≤ 499000 }
-        ensures held { held self.new ≡ with_cells (held self.old) (in_row (held self.old) party day from to (shifted kwh) (held self.old).cells) }
-        ensures fits { Fits (held self.new) }
-        ensures pricing { self.new.pricing ≡ self.old.pricing }
-        ensures sharing { self.new.sharing ≡ self.old.sharing }
+        ensures written { self.new ≡ with_cells self.old (in_row self.old party day from to (shifted kwh) self.old.cells) }
     {
         match Shift::new(kwh) {
             Some(shift) => self.change_hours(party, day, from, to, &shift),
@@ -286,12 +308,9 @@ impl<P, S> Book<'_, P, S> {
 
     // Sets the readings of some hours.
     fn meter_hours(&mut self, party: i64, day: i64, from: i64, to: i64, kwh: i64)
-        requires fits { Fits (held self.old) }
         requires known { (Numbered self.old.sizes.parties party) × ((Numbered self.old.sizes.days day) × (Ranged from to)) }
         requires few { unsigned_abs kwh ≤ 499999 }
-        ensures held { held self.new ≡ with_cells (held self.old) (in_row (held self.old) party day from to (metered kwh) (held self.old).cells) }
-        ensures pricing { self.new.pricing ≡ self.old.pricing }
-        ensures sharing { self.new.sharing ≡ self.old.sharing }
+        ensures { self.new ≡ with_cells self.old (in_row self.old party day from to (metered kwh) self.old.cells) }
     {
         match Reading::new(kwh) {
             Some(reading) => self.change_hours(party, day, from, to, &reading),
@@ -301,13 +320,9 @@ impl<P, S> Book<'_, P, S> {
 
     // Adds a delivery to the cell of its hour.
     fn regulate_hour(&mut self, party: i64, day: i64, hour: i64, kwh: i64, price: i64)
-        requires fits { Fits (held self.old) }
         requires known { (Numbered self.old.sizes.parties party) × ((Numbered self.old.sizes.days day) × (Numbered 24 hour)) }
         requires few { (unsigned_abs kwh ≤ 499000) × (unsigned_abs price ≤ 99999) }
-        ensures held { held self.new ≡ with_cells (held self.old) (in_row (held self.old) party day hour hour (regulated kwh price) (held self.old).cells) }
-        ensures fits { Fits (held self.new) }
-        ensures pricing { self.new.pricing ≡ self.old.pricing }
-        ensures sharing { self.new.sharing ≡ self.old.sharing }
+        ensures written { self.new ≡ with_cells self.old (in_row self.old party day hour hour (regulated kwh price) self.old.cells) }
     {
         match Delivery::new(kwh, price) {
             Some(delivery) => self.change_hours(party, day, hour, hour, &delivery),
@@ -317,12 +332,9 @@ impl<P, S> Book<'_, P, S> {
 
     // Moves kWh of some hours from the buyer's position to the seller's.
     fn sell(&mut self, day: i64, from: i64, to: i64, seller: i64, buyer: i64, kwh: i64)
-        requires fits { Fits (held self.old) }
         requires known { (Numbered self.old.sizes.parties seller) × ((Numbered self.old.sizes.parties buyer) × ((Numbered self.old.sizes.days day) × (Ranged from to))) }
         requires few { unsigned_abs kwh ≤ 499000 }
-        ensures held { held self.new ≡ with_cells (held self.old) (sale (held self.old) day from to seller buyer kwh) }
-        ensures pricing { self.new.pricing ≡ self.old.pricing }
-        ensures sharing { self.new.sharing ≡ self.old.sharing }
+        ensures { self.new ≡ with_cells self.old (sale self.old day from to seller buyer kwh) }
     {
         self.shift_hours(seller, day, from, to, kwh);
         self.shift_hours(buyer, day, from, to, minus(kwh));
@@ -330,11 +342,9 @@ impl<P, S> Book<'_, P, S> {
 
     // Moves halers from the buyer's cash to the seller's.
     fn pay(&mut self, seller: i64, buyer: i64, halers: i64)
-        requires known { (unsigned_abs seller ≤ 20) × (unsigned_abs buyer ≤ 20) }
+        requires known { (Numbered self.old.sizes.parties seller) × (Numbered self.old.sizes.parties buyer) }
         requires few { unsigned_abs halers ≤ 1000000000000 }
-        ensures held { held self.new ≡ with_accounts (held self.old) (credited buyer (neg_ℤ halers) (credited seller halers (held self.old).accounts)) }
-        ensures pricing { self.new.pricing ≡ self.old.pricing }
-        ensures sharing { self.new.sharing ≡ self.old.sharing }
+        ensures { self.new ≡ with_accounts self.old (credited buyer (neg_ℤ halers) (credited seller halers self.old.accounts)) }
     {
         self.credit(seller, halers);
         self.credit(buyer, minus(halers));
@@ -342,13 +352,10 @@ impl<P, S> Book<'_, P, S> {
 
     // Adds a delivery to the cell and to the record of its hour.
     fn write_delivery(&mut self, day: i64, hour: i64, party: i64, kwh: i64, price: i64)
-        requires fits { Fits (held self.old) }
         requires known { (Numbered self.old.sizes.parties party) × ((Numbered self.old.sizes.days day) × (Numbered 24 hour)) }
         requires few { (unsigned_abs kwh ≤ 499000) × (unsigned_abs price ≤ 99999) }
-        requires room { deliverable ((standing_on (held self.old)).deliveries (index day) (index hour)) kwh price ≡ true }
-        ensures held { held self.new ≡ posted (held self.old) (Regulate day hour party kwh price) }
-        ensures pricing { self.new.pricing ≡ self.old.pricing }
-        ensures sharing { self.new.sharing ≡ self.old.sharing }
+        requires room { deliverable ((standing_on self.old).deliveries (index day) (index hour)) kwh price ≡ true }
+        ensures { self.new ≡ posted self.old (Regulate day hour party kwh price) }
     {
         self.regulate_hour(party, day, hour, kwh, price);
         self.deliver(day, hour, kwh, price);
@@ -356,12 +363,9 @@ impl<P, S> Book<'_, P, S> {
 
     // Writes an entry that has passed every check.
     fn write(&mut self, entry: &Entry)
-        requires fits { Fits (held self.old) }
         requires sane { Sane self.old.sizes entry.now }
-        requires room { Room (held self.old) entry.now }
-        ensures held { held self.new ≡ posted (held self.old) entry.now }
-        ensures pricing { self.new.pricing ≡ self.old.pricing }
-        ensures sharing { self.new.sharing ≡ self.old.sharing }
+        requires room { Room self.old entry.now }
+        ensures { self.new ≡ posted self.old entry.now }
     {
         match *entry {
             Entry::Deposit { party, haler } => self.credit(party, haler),
@@ -403,64 +407,5 @@ impl<P, S> Book<'_, P, S> {
             } => self.meter_hours(party, day, from, to, kwh),
             Entry::Evaluate { .. } => {}
         }
-    }
-}
-
-impl<P, S> Book<'_, P, S> {
-    // Whether the sizes are in range and the pages have theirs.
-    fn fits(&self) -> bool
-        ensures { result ≡ fits (held self.now) }
-    {
-        sized(&self.sizes)
-            && paged(
-                &self.sizes,
-                self.pages.cells.len(),
-                self.pages.records.len(),
-            )
-    }
-
-    // The account of a party.
-    fn account(&self, of: usize) -> Account
-        ensures value { result ≡ (standing_on (held self.now)).account of }
-        ensures cash { unsigned_abs result.cash ≤ 100000000000000000 }
-        ensures settled { unsigned_abs result.settled ≤ 937440000000000 }
-    {
-        match self.accounts.get(of) {
-            Some(account) => read_account(account),
-            None => Account {
-                cash: 0,
-                settled: 0,
-            },
-        }
-    }
-
-    // The state of a day.
-    fn state(&self, day: usize) -> DayState
-        ensures { result ≡ (standing_on (held self.now)).state day }
-    {
-        match self.states.get(day) {
-            Some(state) => *state,
-            None => DayState::Open,
-        }
-    }
-
-    // The cells of a party, day by day.
-    fn cells_of(&self, party: usize) -> &[PlainCell]
-        requires fits { Fits (held self.now) }
-        requires known { party < self.now.sizes.parties }
-        ensures value { result.now ≡ cells_of (held self.now) party }
-        ensures size { length result.now ≡ self.now.sizes.days * 24 }
-    {
-        let start = party_at(&self.sizes, party);
-        &self.pages.cells[start..start + self.sizes.days as usize * 24]
-    }
-
-    // The states of the book's days.
-    fn day_states(&self) -> &[DayState]
-        requires fits { Fits (held self.now) }
-        ensures value { result.now ≡ states_of (held self.now) }
-        ensures size { length result.now ≡ self.now.sizes.days }
-    {
-        &self.states[0..self.sizes.days as usize]
     }
 }

@@ -1,9 +1,10 @@
 // Opening a book (docs/RULES.md, "Parties, days and pages").
 ghost use Rattle.std.specs.Prelude.{◌≡◌};
 ghost use Rattle.book.specs.Opening.{Opens, openable};
+ghost use Rattle.book.specs.Books.{held};
 
 use super::account::Account;
-use super::book::Book;
+use super::book::{Book, Ledger};
 use super::pages::Pages;
 use entries::entry::{DayState, Sizes};
 use entries::refusal::Refusal;
@@ -45,7 +46,7 @@ impl<'a, P: Drop, S: Drop> Book<'a, P, S> {
         }
         clear_cells(pages.cells);
         clear_records(pages.records);
-        Ok(Book {
+        let ledger = Ledger {
             pages,
             sizes: Sizes {
                 parties: parties as u8,
@@ -57,6 +58,9 @@ impl<'a, P: Drop, S: Drop> Book<'a, P, S> {
             }; 20],
             states: [DayState::Open; 62],
             operator: 0,
+        };
+        Ok(Book {
+            ledger,
             pricing,
             sharing,
         })
@@ -66,8 +70,8 @@ impl<'a, P: Drop, S: Drop> Book<'a, P, S> {
 impl<P, S> Book<'_, P, S> {
     // How many parties and days the book has.
     pub fn sizes(&self) -> Sizes
-        ensures { result ≡ self.now.sizes }
+        ensures { result ≡ (held self.now).sizes }
     {
-        self.sizes
+        self.ledger.sizes
     }
 }

@@ -4,12 +4,13 @@ ghost use Rattle.hourly.specs.Cells.{read};
 ghost use Rattle.hourly.specs.Records.{record_read};
 ghost use Rattle.sheet.specs.Gathering.{facts, gather_refusal, rows_gathered};
 ghost use Rattle.sheet.specs.Sheets.{hour_facts};
-ghost use Rattle.book.specs.Standing.{index, terms};
+ghost use Rattle.book.specs.Standing.{index};
 ghost use Rattle.book.specs.HourSheets.{hour_gather_refusal, gathered_facts, hour_cells, listed, unknown_hour};
-ghost use Rattle.book.specs.Held.{Fits, fits, held, standing_on};
+ghost use Rattle.book.specs.Held.{standing_on};
+ghost use Rattle.book.specs.Books.{held, terms_by};
 
-use crate::book::Book;
-use crate::{hour_at, index, row_at};
+use crate::book::{Book, Ledger};
+use crate::index;
 use hourly::plain::{PlainCell, PlainRecord};
 use pricing::Pricing;
 use sharing::Sharing;
@@ -44,41 +45,40 @@ const BLANK: PlainCell = PlainCell {
     last: 0,
 };
 
-impl<P: Pricing, S: Sharing> Book<'_, P, S> {
+impl Ledger<'_> {
     // The cells of an hour, one for each party in order.
     fn hour_cells(&self, day: usize, hour: usize) -> [PlainCell; 20]
-        requires fits { Fits (held self.now) }
-        requires known { (day < self.now.sizes.days) × (hour < 24) }
-        ensures { map read (take self.now.sizes.parties result) ≡ listed self.now.sizes.parties (λ p. (standing_on (held self.now)).cell p day hour) }
+        requires { (day < self.now.sizes.days) × (hour < 24) }
+        ensures { map read (take self.now.sizes.parties result) ≡ listed self.now.sizes.parties (λ p. (standing_on self.now).cell p day hour) }
     {
         let mut cells = [BLANK; 20];
         for party in 0..self.sizes.parties as usize {
-            cells[party] = self.pages.cells[row_at(&self.sizes, party, day) + hour];
+            cells[party] = self.pages.cells[self.row_at(party, day) + hour];
         }
         cells
     }
+}
 
+impl<P: Pricing, S: Sharing> Book<'_, P, S> {
     // The sheet of an hour of the book.
     fn gather_hour(&self, day: i64, hour: i64) -> Gathered
-        requires fits { Fits (held self.now) }
-        requires known { (index day < self.now.sizes.days) × (index hour < 24) }
-        ensures refusal { result.refusal ≡ gather_refusal hour (hour_cells (terms self.now.sizes (P.Pricing.map self.now.pricing) (S.Sharing.map self.now.sharing)) (standing_on (held self.now)) day hour) }
-        ensures facts { facts result ≡ hour_facts hour (hour_cells (terms self.now.sizes (P.Pricing.map self.now.pricing) (S.Sharing.map self.now.sharing)) (standing_on (held self.now)) day hour) ((standing_on (held self.now)).deliveries (index day) (index hour)) }
+        requires { (index day < self.now.ledger.sizes.days) × (index hour < 24) }
+        ensures refusal { result.refusal ≡ gather_refusal hour (hour_cells (terms_by P.Pricing.map S.Sharing.map self.now) (standing_on (held self.now)) day hour) }
+        ensures facts { facts result ≡ hour_facts hour (hour_cells (terms_by P.Pricing.map S.Sharing.map self.now) (standing_on (held self.now)) day hour) ((standing_on (held self.now)).deliveries (index day) (index hour)) }
     {
-        let cells = self.hour_cells(index(day), index(hour));
-        let lying = self.pages.records[hour_at(&self.sizes, day, hour)];
-        sheet_from(hour, &cells, self.sizes.parties as usize, &lying)
+        let ledger = &self.ledger;
+        let cells = ledger.hour_cells(index(day), index(hour));
+        let lying = ledger.pages.records[ledger.hour_at(day, hour)];
+        sheet_from(hour, &cells, ledger.sizes.parties as usize, &lying)
     }
 
-    // The refusal of a day or an hour that the book does not have.
+    // The refusal of a day or an hour that the book does not have: an `Option`, as a sheet holds it.
     fn unknown_hour(&self, day: i64, hour: i64) -> Option<SheetRefusal>
-        ensures value { result ≡ unknown_hour (terms self.now.sizes (P.Pricing.map self.now.pricing) (S.Sharing.map self.now.sharing)) (held self.now) day hour }
-        ensures passed { result ≡ None → Fits (held self.now) × (index day < self.now.sizes.days) × (index hour < 24) }
+        ensures value { result ≡ unknown_hour (terms_by P.Pricing.map S.Sharing.map self.now) (held self.now) day hour }
+        ensures passed { result ≡ None → (index day < self.now.ledger.sizes.days) × (index hour < 24) }
     {
-        if !self.fits() {
-            return Some(SheetRefusal::Parties);
-        }
-        if day < 1 || day > self.sizes.days as i64 {
+        let sizes = self.ledger.sizes();
+        if day < 1 || day > i64::from(sizes.days) {
             return Some(SheetRefusal::Day { day });
         }
         if hour < 1 || hour > 24 {
@@ -89,8 +89,8 @@ impl<P: Pricing, S: Sharing> Book<'_, P, S> {
 
     // The sheet of an hour, or one that met a refusal.
     fn sheet_of(&self, day: i64, hour: i64) -> Gathered
-        ensures refusal { result.refusal ≡ hour_gather_refusal (terms self.now.sizes (P.Pricing.map self.now.pricing) (S.Sharing.map self.now.sharing)) (held self.now) day hour }
-        ensures facts { facts result ≡ gathered_facts (terms self.now.sizes (P.Pricing.map self.now.pricing) (S.Sharing.map self.now.sharing)) (held self.now) day hour }
+        ensures refusal { result.refusal ≡ hour_gather_refusal (terms_by P.Pricing.map S.Sharing.map self.now) (held self.now) day hour }
+        ensures facts { facts result ≡ gathered_facts (terms_by P.Pricing.map S.Sharing.map self.now) (held self.now) day hour }
     {
         match self.unknown_hour(day, hour) {
             Some(refusal) => Gathered::refused(refusal),
@@ -100,8 +100,8 @@ impl<P: Pricing, S: Sharing> Book<'_, P, S> {
 
     // The sheet of an hour, gathered in whatever state its day is; it alters nothing.
     pub fn gather(&self, day: i64, hour: i64) -> Gathered
-        ensures refusal { result.refusal ≡ hour_gather_refusal (terms self.now.sizes (P.Pricing.map self.now.pricing) (S.Sharing.map self.now.sharing)) (held self.now) day hour }
-        ensures facts { facts result ≡ gathered_facts (terms self.now.sizes (P.Pricing.map self.now.pricing) (S.Sharing.map self.now.sharing)) (held self.now) day hour }
+        ensures refusal { result.refusal ≡ hour_gather_refusal (terms_by P.Pricing.map S.Sharing.map self.now) (held self.now) day hour }
+        ensures facts { facts result ≡ gathered_facts (terms_by P.Pricing.map S.Sharing.map self.now) (held self.now) day hour }
     {
         self.sheet_of(day, hour)
     }

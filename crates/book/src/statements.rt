@@ -1,14 +1,16 @@
 // The statement of a party (docs/RULES.md, "book and show").
-ghost use Rattle.std.specs.Prelude.{◌≡◌, ◌-◌, ◌<◌, length, pos, None};
+ghost use Rattle.std.specs.Prelude.{◌≡◌, ◌-◌, ◌<◌, length, pos, IfOk};
 ghost use Rattle.needs.specs.Need.{need_of};
 ghost use Rattle.cover.specs.Prices.{in_use};
-ghost use Rattle.book.specs.Standing.{index, terms};
+ghost use Rattle.entries.specs.Fields.{verdict};
+ghost use Rattle.book.specs.Standing.{index};
 ghost use Rattle.book.specs.Checks.{balance_at};
 ghost use Rattle.book.specs.Sales.{cells_of, states_of};
-ghost use Rattle.book.specs.Held.{Fits, fits, held, standing_on};
+ghost use Rattle.book.specs.Held.{standing_on};
+ghost use Rattle.book.specs.Books.{held, terms_by};
 ghost use Rattle.book.specs.Posting.{show_refusal, statement_at, statement_on};
 
-use crate::book::Book;
+use crate::book::{Book, Ledger};
 use crate::index;
 use crate::statement::Statement;
 use cover::prices::ParametricPrices;
@@ -17,13 +19,12 @@ use needs::need;
 use pricing::Pricing;
 use sharing::Sharing;
 
-impl<P: Pricing, S: Sharing> Book<'_, P, S> {
+impl Ledger<'_> {
     // What a party needs.
     fn need_now(&self, party: usize) -> i64
-        requires fits { Fits (held self.now) }
-        requires known { party < self.now.sizes.parties }
-        ensures long { length (states_of (held self.now)) ≡ self.now.sizes.days }
-        ensures value { result ≡ pos (need_of in_use (states_of (held self.now)) (cells_of (held self.now) party)) }
+        requires { party < self.now.sizes.parties }
+        ensures long { length (states_of self.now) ≡ self.now.sizes.days }
+        ensures value { result ≡ pos (need_of in_use (states_of self.now) (cells_of self.now party)) }
     {
         let prices = ParametricPrices::in_use();
         match need(&prices, self.day_states(), self.cells_of(party)) {
@@ -34,45 +35,42 @@ impl<P: Pricing, S: Sharing> Book<'_, P, S> {
 
     // A party's balance.
     fn balance(&self, party: usize) -> i64
-        ensures { result ≡ balance_at (standing_on (held self.now)) party }
+        ensures { result ≡ balance_at (standing_on self.now) party }
     {
         let account = self.account(party);
         account.cash + account.settled
     }
+}
 
+impl<P: Pricing, S: Sharing> Book<'_, P, S> {
     // The statement of a party of the book.
     fn statement_of(&self, party: usize) -> Statement
-        requires fits { Fits (held self.now) }
-        requires known { party < self.now.sizes.parties }
-        ensures { result ≡ statement_at (terms self.now.sizes (P.Pricing.map self.now.pricing) (S.Sharing.map self.now.sharing)) (standing_on (held self.now)) party }
+        requires { party < self.now.ledger.sizes.parties }
+        ensures { result ≡ statement_at (terms_by P.Pricing.map S.Sharing.map self.now) (standing_on (held self.now)) party }
     {
         Statement {
-            balance: self.balance(party),
-            need: self.need_now(party),
+            balance: self.ledger.balance(party),
+            need: self.ledger.need_now(party),
         }
     }
 
-    // The refusal of a statement, if any.
-    fn show_refusal(&self, party: i64) -> Option<Refusal>
-        ensures value { result ≡ show_refusal (terms self.now.sizes (P.Pricing.map self.now.pricing) (S.Sharing.map self.now.sharing)) (held self.now) party }
-        ensures passed { result ≡ None → Fits (held self.now) × (index party < self.now.sizes.parties) }
+    // That the book has a party.
+    fn check_shown(&self, party: i64) -> Result<(), Refusal>
+        ensures value { result ≡ verdict (show_refusal (terms_by P.Pricing.map S.Sharing.map self.now) (held self.now) party) }
+        ensures known { IfOk result (λ _. index party < self.now.ledger.sizes.parties) }
     {
-        if !self.fits() {
-            return Some(Refusal::WrongSize);
+        let sizes = self.ledger.sizes();
+        if party < 1 || party > i64::from(sizes.parties) {
+            return Err(Refusal::UnknownParty { party });
         }
-        if party < 1 || party > self.sizes.parties as i64 {
-            return Some(Refusal::UnknownParty { party });
-        }
-        None
+        Ok(())
     }
 
     // The statement of a party, which alters nothing.
     pub fn statement(&self, party: i64) -> Result<Statement, Refusal>
-        ensures { result ≡ statement_on (terms self.now.sizes (P.Pricing.map self.now.pricing) (S.Sharing.map self.now.sharing)) (held self.now) party }
+        ensures { result ≡ statement_on (terms_by P.Pricing.map S.Sharing.map self.now) (held self.now) party }
     {
-        match self.show_refusal(party) {
-            Some(refusal) => Err(refusal),
-            None => Ok(self.statement_of(index(party))),
-        }
+        self.check_shown(party)?;
+        Ok(self.statement_of(index(party)))
     }
 }

@@ -3,8 +3,7 @@
 
 ghost use Rattle.std.specs.Prelude.{◌≡◌};
 ghost use Rattle.entries.specs.declared.entry.Entry.TheVariants.{Close, Deposit, Market, Meter, Register, Regulate, Withdraw};
-ghost use Rattle.book.specs.Standing.{terms};
-ghost use Rattle.book.specs.Held.{held};
+ghost use Rattle.book.specs.Books.{held, terms_by};
 ghost use Rattle.book.specs.Posting.{afterwards, reply_on};
 
 use book::book::Book;
@@ -15,8 +14,8 @@ use sharing::Sharing;
 
 // Adds to a party's cash.
 pub fn deposit<P: Pricing, S: Sharing>(book: &mut Book<'_, P, S>, party: i64, haler: i64) -> Reply
-    ensures reply { result ≡ reply_on (terms book.old.sizes (P.Pricing.map book.old.pricing) (S.Sharing.map book.old.sharing)) (held book.old) (Deposit party haler) }
-    ensures held { held book.new ≡ afterwards (terms book.old.sizes (P.Pricing.map book.old.pricing) (S.Sharing.map book.old.sharing)) (held book.old) (Deposit party haler) }
+    ensures reply { result ≡ reply_on (terms_by P.Pricing.map S.Sharing.map book.old) (held book.old) (Deposit party haler) }
+    ensures held { held book.new ≡ afterwards (terms_by P.Pricing.map S.Sharing.map book.old) (held book.old) (Deposit party haler) }
     ensures pricing { book.new.pricing ≡ book.old.pricing }
     ensures sharing { book.new.sharing ≡ book.old.sharing }
 {
@@ -26,8 +25,8 @@ pub fn deposit<P: Pricing, S: Sharing>(book: &mut Book<'_, P, S>, party: i64, ha
 
 // Takes from a party's cash.
 pub fn withdraw<P: Pricing, S: Sharing>(book: &mut Book<'_, P, S>, party: i64, haler: i64) -> Reply
-    ensures reply { result ≡ reply_on (terms book.old.sizes (P.Pricing.map book.old.pricing) (S.Sharing.map book.old.sharing)) (held book.old) (Withdraw party haler) }
-    ensures held { held book.new ≡ afterwards (terms book.old.sizes (P.Pricing.map book.old.pricing) (S.Sharing.map book.old.sharing)) (held book.old) (Withdraw party haler) }
+    ensures reply { result ≡ reply_on (terms_by P.Pricing.map S.Sharing.map book.old) (held book.old) (Withdraw party haler) }
+    ensures held { held book.new ≡ afterwards (terms_by P.Pricing.map S.Sharing.map book.old) (held book.old) (Withdraw party haler) }
     ensures pricing { book.new.pricing ≡ book.old.pricing }
     ensures sharing { book.new.sharing ≡ book.old.sharing }
 {
@@ -45,8 +44,8 @@ pub fn register<P: Pricing, S: Sharing>(
     buyer: i64,
     kwh: i64,
 ) -> Reply
-    ensures reply { result ≡ reply_on (terms book.old.sizes (P.Pricing.map book.old.pricing) (S.Sharing.map book.old.sharing)) (held book.old) (Register day from to seller buyer kwh) }
-    ensures held { held book.new ≡ afterwards (terms book.old.sizes (P.Pricing.map book.old.pricing) (S.Sharing.map book.old.sharing)) (held book.old) (Register day from to seller buyer kwh) }
+    ensures reply { result ≡ reply_on (terms_by P.Pricing.map S.Sharing.map book.old) (held book.old) (Register day from to seller buyer kwh) }
+    ensures held { held book.new ≡ afterwards (terms_by P.Pricing.map S.Sharing.map book.old) (held book.old) (Register day from to seller buyer kwh) }
     ensures pricing { book.new.pricing ≡ book.old.pricing }
     ensures sharing { book.new.sharing ≡ book.old.sharing }
 {
@@ -72,8 +71,8 @@ pub fn market<P: Pricing, S: Sharing>(
     kwh: i64,
     price: i64,
 ) -> Reply
-    ensures reply { result ≡ reply_on (terms book.old.sizes (P.Pricing.map book.old.pricing) (S.Sharing.map book.old.sharing)) (held book.old) (Market day from to seller buyer kwh price) }
-    ensures held { held book.new ≡ afterwards (terms book.old.sizes (P.Pricing.map book.old.pricing) (S.Sharing.map book.old.sharing)) (held book.old) (Market day from to seller buyer kwh price) }
+    ensures reply { result ≡ reply_on (terms_by P.Pricing.map S.Sharing.map book.old) (held book.old) (Market day from to seller buyer kwh price) }
+    ensures held { held book.new ≡ afterwards (terms_by P.Pricing.map S.Sharing.map book.old) (held book.old) (Market day from to seller buyer kwh price) }
     ensures pricing { book.new.pricing ≡ book.old.pricing }
     ensures sharing { book.new.sharing ≡ book.old.sharing }
 {
@@ -91,8 +90,8 @@ pub fn market<P: Pricing, S: Sharing>(
 
 // Ends trading for a day.
 pub fn close<P: Pricing, S: Sharing>(book: &mut Book<'_, P, S>, day: i64) -> Reply
-    ensures reply { result ≡ reply_on (terms book.old.sizes (P.Pricing.map book.old.pricing) (S.Sharing.map book.old.sharing)) (held book.old) (Close day) }
-    ensures held { held book.new ≡ afterwards (terms book.old.sizes (P.Pricing.map book.old.pricing) (S.Sharing.map book.old.sharing)) (held book.old) (Close day) }
+    ensures reply { result ≡ reply_on (terms_by P.Pricing.map S.Sharing.map book.old) (held book.old) (Close day) }
+    ensures held { held book.new ≡ afterwards (terms_by P.Pricing.map S.Sharing.map book.old) (held book.old) (Close day) }
     ensures pricing { book.new.pricing ≡ book.old.pricing }
     ensures sharing { book.new.sharing ≡ book.old.sharing }
 {
@@ -109,8 +108,8 @@ pub fn regulate<P: Pricing, S: Sharing>(
     kwh: i64,
     price: i64,
 ) -> Reply
-    ensures reply { result ≡ reply_on (terms book.old.sizes (P.Pricing.map book.old.pricing) (S.Sharing.map book.old.sharing)) (held book.old) (Regulate day hour party kwh price) }
-    ensures held { held book.new ≡ afterwards (terms book.old.sizes (P.Pricing.map book.old.pricing) (S.Sharing.map book.old.sharing)) (held book.old) (Regulate day hour party kwh price) }
+    ensures reply { result ≡ reply_on (terms_by P.Pricing.map S.Sharing.map book.old) (held book.old) (Regulate day hour party kwh price) }
+    ensures held { held book.new ≡ afterwards (terms_by P.Pricing.map S.Sharing.map book.old) (held book.old) (Regulate day hour party kwh price) }
     ensures pricing { book.new.pricing ≡ book.old.pricing }
     ensures sharing { book.new.sharing ≡ book.old.sharing }
 {
@@ -133,8 +132,8 @@ pub fn meter<P: Pricing, S: Sharing>(
     party: i64,
     kwh: i64,
 ) -> Reply
-    ensures reply { result ≡ reply_on (terms book.old.sizes (P.Pricing.map book.old.pricing) (S.Sharing.map book.old.sharing)) (held book.old) (Meter day from to party kwh) }
-    ensures held { held book.new ≡ afterwards (terms book.old.sizes (P.Pricing.map book.old.pricing) (S.Sharing.map book.old.sharing)) (held book.old) (Meter day from to party kwh) }
+    ensures reply { result ≡ reply_on (terms_by P.Pricing.map S.Sharing.map book.old) (held book.old) (Meter day from to party kwh) }
+    ensures held { held book.new ≡ afterwards (terms_by P.Pricing.map S.Sharing.map book.old) (held book.old) (Meter day from to party kwh) }
     ensures pricing { book.new.pricing ≡ book.old.pricing }
     ensures sharing { book.new.sharing ≡ book.old.sharing }
 {

@@ -33,7 +33,7 @@ const RECORD: PlainRecord = PlainRecord {
 // Whether a reply is the refusal of this number and place; 0 where it is accepted.
 fn told(number: u8, place: i64, reply: Reply) -> bool {
     match reply {
-        Reply::Refused { refusal } => refusal.number() == number && refusal.place() == place,
+        Err(refusal) => refusal.number() == number && refusal.place() == place,
         _ => number == 0,
     }
 }

@@ -1,4 +1,5 @@
 pub mod Fields
 pub mod Refusals
+pub mod Replies
 pub mod Sane
 pub mod States

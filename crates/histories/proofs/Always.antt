@@ -1,7 +1,7 @@
 -- A book and its history agree after any list of entries. Assumes nothing.
 use Rattle.std.proofs.Common.{List, [], ◌∷◌, refl, subst, ap₂}
 use Rattle.entries.specs.declared.entry.Entry.{Entry}
-use Rattle.entries.specs.declared.reply.Reply.{Reply}
+use Rattle.entries.specs.Replies.{Reply}
 use Rattle.book.specs.Standing.{Terms}
 use Rattle.book.specs.Held.{Held}
 use Rattle.book.specs.Posting.{afterwards, opened}

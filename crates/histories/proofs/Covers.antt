@@ -1,5 +1,5 @@
 -- Cover from entry to entry of a history. Assumes nothing.
-use Rattle.std.proofs.Common.{◌≡◌, ℕ, Bool, true, false, cond, not, ◌||◌, eqb, List, [], ◌∷◌, map, ℤ, pos, ◌+ℤ◌, neg_ℤ, nat_abs, Some, None, Option, unwrap_or, sym, refl, ap, ◌∙◌, subst, ap₂, arith}
+use Rattle.std.proofs.Common.{◌≡◌, ℕ, Bool, true, false, cond, not, ◌||◌, eqb, List, [], ◌∷◌, map, ℤ, pos, ◌+ℤ◌, neg_ℤ, nat_abs, Some, None, Ok, Err, Option, unwrap_or, sym, refl, ap, ◌∙◌, subst, ap₂, arith}
 use Rattle.std.proofs.lemmas.Int.{ints}
 use lib.IntN.{+ℤ_idr}
 use lib.Signed.{le_z}
@@ -12,8 +12,8 @@ use Rattle.entries.specs.declared.entry.Entry.TheVariants.{Deposit, Withdraw, Re
 use Rattle.entries.specs.declared.entry.Sizes.{Sizes}
 use Rattle.entries.specs.declared.refusal.Refusal.{Refusal}
 use Rattle.entries.specs.declared.refusal.Refusal.TheVariants.{NotCovered}
-use Rattle.entries.specs.declared.reply.Reply.{Reply}
-use Rattle.entries.specs.declared.reply.Reply.TheVariants.{Accepted, Refused}
+use Rattle.entries.specs.Replies.{Reply}
+use Rattle.entries.specs.declared.reply.Receipt.TheVariants.{Accepted}
 use Rattle.entries.specs.Fields.{field_checks, first_of}
 use Rattle.entries.specs.Sane.{Numbered, Sane}
 use Rattle.entries.specs.States.{after}
@@ -50,11 +50,11 @@ still_counted (Evaluate day stage) d s = refl
 
 module _ (m : Terms) (h : History) (e : Entry) (p : ℕ) where
   -- what the check looks at is how it is afterwards
-  cover_after : refusal_at m (standing m h) e ≡ None → covered m (step e Accepted ∷ h) p ≡ passes_cover m (standing m h) e p
+  cover_after : refusal_at m (standing m h) e ≡ None → covered m (step e (Ok Accepted) ∷ h) p ≡ passes_cover m (standing m h) e p
   unfolding passes_cover
   cover_after ok =
       let v = standing m h in
-      let w = standing m (step e Accepted ∷ h) in
+      let w = standing m (step e (Ok Accepted) ∷ h) in
       ap (λ n. le_z (pos n) (balance_at w p))
       (need-same m.table w.hours v.hours (λ d. counted (w.state d)) (λ d. counted (v.state d)) (λ d t. (w.cell p d t).position) (position_after v e p) m.sizes.days
       (λ d i. refl)
@@ -62,10 +62,10 @@ module _ (m : Terms) (h : History) (e : Entry) (p : ℕ) where
       (λ d t i j. refl))
 
   -- a refused entry leaves it
-  cover_stays : (r : Refusal) → covered m (step e (Refused r) ∷ h) p ≡ covered m h p
+  cover_stays : (r : Refusal) → covered m (step e (Err r) ∷ h) p ≡ covered m h p
   cover_stays r =
       let v = standing m h in
-      let w = standing m (step e (Refused r) ∷ h) in
+      let w = standing m (step e (Err r) ∷ h) in
       ap₂ (λ n z. le_z (pos n) (z +ℤ (v.account p).settled))
       (need-same m.table w.hours v.hours (λ d. counted (w.state d)) (λ d. counted (v.state d)) (λ d t. (w.cell p d t).position) (λ d t. (v.cell p d t).position) m.sizes.days
       (λ d i. refl)

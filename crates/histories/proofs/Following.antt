@@ -1,5 +1,5 @@
 -- A newly opened book reflects the empty history, and a book that reflects a history goes on doing so, entry by entry. Assumes nothing.
-use Rattle.std.proofs.Common.{◌≡◌, ℕ, zero, suc, ◌+◌, ◌*◌, Bool, true, false, cond, not, eqb, ◌∷◌, ℤ, pos, ◌+ℤ◌, is_some, Some, None, Option, unwrap_or, sym, refl, ap, ◌∙◌, subst, add-zero, arith}
+use Rattle.std.proofs.Common.{◌≡◌, ℕ, zero, suc, ◌+◌, ◌*◌, Bool, true, false, cond, not, eqb, ◌∷◌, ℤ, pos, ◌+ℤ◌, is_some, Some, None, Ok, Err, Option, unwrap_or, sym, refl, ap, ◌∙◌, subst, add-zero, arith}
 use lib.IntN.{+ℤ_idr}
 use Rattle.std.proofs.lemmas.Bool.{cond-true, eqb-true, true≢false}
 use Rattle.hourly.specs.Cells.{CellFigures}
@@ -11,7 +11,7 @@ use Rattle.entries.specs.declared.entry.Entry.TheVariants.{Deposit, Withdraw, Re
 use Rattle.entries.specs.declared.entry.Sizes.{Sizes}
 use Rattle.entries.specs.declared.refusal.Refusal.{Refusal}
 use Rattle.entries.specs.declared.refusal.Refusal.TheVariants.{NotAdmitted, WrongSize}
-use Rattle.entries.specs.declared.reply.Reply.TheVariants.{Accepted, Refused}
+use Rattle.entries.specs.declared.reply.Receipt.TheVariants.{Accepted}
 use Rattle.entries.specs.Fields.{field_checks}
 use Rattle.entries.specs.States.{after}
 use Rattle.entries.proofs.Passed.{passed}
@@ -55,7 +55,7 @@ same-cell c =
 same-cash : (a : Account) → record { cash = a.cash +ℤ pos 0; settled = a.settled } ≡ a
 same-cash a = ap (λ (z : ℤ). record { cash = z; settled = a.settled }) (+ℤ_idr a.cash)
 
-pub refused_stays : (m : Terms) (h : History) (e : Entry) (r : Refusal) → Agrees m.sizes (standing m h) (standing m (step e (Refused r) ∷ h))
+pub refused_stays : (m : Terms) (h : History) (e : Entry) (r : Refusal) → Agrees m.sizes (standing m h) (standing m (step e (Err r) ∷ h))
 refused_stays m h e r = record {
   cell = λ p d t _ _ _. sym (same-cell ((standing m h).cell p d t));
   deliveries = λ d t _ _. refl;
@@ -114,7 +114,7 @@ state-next m v (Evaluate day stage) d n s ok =
     absurd (true≢false (passed true (NotAdmitted (v.state (index day))) None a.1).0)
 
 -- every figure of a history after an accepted entry is as the entry makes it
-pub accepted_makes : (m : Terms) (h : History) (e : Entry) → refusal_at m (standing m h) e ≡ None → After m.sizes (standing m h) e (standing m (step e Accepted ∷ h))
+pub accepted_makes : (m : Terms) (h : History) (e : Entry) → refusal_at m (standing m h) e ≡ None → After m.sizes (standing m h) e (standing m (step e (Ok Accepted) ∷ h))
 accepted_makes m h e ok = record {
   cell = λ p d t _ _ _.
       let c = (standing m h).cell p d t in
@@ -134,7 +134,7 @@ module _ (m : Terms) (h : History) (b : Held) (r : Reflects m h b) where
   unfolding refusal_on
   refusal_of e = cond-true (fits b) (refusal_at m (standing_on b) e) (Some WrongSize) r.kept.fitting ∙ refusal-same m (standing_on b) (standing m h) r.figures (λ d. omega arith) e
 
-  refused : (e : Entry) (x : Refusal) → Reflects m (step e (Refused x) ∷ h) b
+  refused : (e : Entry) (x : Refusal) → Reflects m (step e (Err x) ∷ h) b
   refused e x =
       let f = r.figures in
       let s = refused_stays m h e x in
@@ -151,7 +151,7 @@ module _ (m : Terms) (h : History) (b : Held) (r : Reflects m h b) where
         };
       }
 
-  taken : (e : Entry) → refusal_on m b e ≡ None → Reflects m (step e Accepted ∷ h) (posted b e)
+  taken : (e : Entry) → refusal_on m b e ≡ None → Reflects m (step e (Ok Accepted) ∷ h) (posted b e)
   taken e none =
       let f = r.figures in
       let both = after_holds m b e r.sizes r.kept none in

@@ -10,7 +10,7 @@
 use Rattle.std.specs.Prelude.{◌≡◌, ℕ, ◌<◌, true, List, [], ◌∷◌}
 use Rattle.entries.specs.declared.entry.Entry.{Entry}
 use Rattle.entries.specs.declared.entry.Sizes.{Sizes}
-use Rattle.entries.specs.declared.reply.Reply.{Reply}
+use Rattle.entries.specs.Replies.{Reply}
 use Rattle.book.specs.Standing.{Standing, Terms}
 use Rattle.book.specs.Held.{Held, sized, standing_on}
 use Rattle.book.specs.Posting.{afterwards, opened, reply_on}

@@ -8,7 +8,7 @@
 use Rattle.std.specs.Prelude.{◌≡◌, ℕ, Bool, true, false, ◌||◌, List, [], ◌∷◌, ℤ, pos, ◌==◌, int_le}
 use Rattle.entries.specs.declared.entry.Entry.{Entry}
 use Rattle.entries.specs.declared.entry.Entry.TheVariants.{Deposit, Withdraw, Register, Market, Close, Regulate, Meter, Evaluate}
-use Rattle.entries.specs.declared.reply.Reply.{Reply}
+use Rattle.entries.specs.Replies.{Reply}
 use Rattle.book.specs.Standing.{Terms, index}
 use Rattle.book.specs.Checks.{balance_at, covered_of, need_at}
 use Rattle.histories.specs.Histories.{Answered, History, accepted, standing, step}

@@ -14,14 +14,13 @@
 --   answers m h es    those replies
 --
 -- What f says of an entry may depend on the history before the entry.
-use Rattle.std.specs.Prelude.{◌≡◌, ℕ, zero, suc, ◌+◌, Bool, true, false, cond, ◌&&◌, List, [], ◌∷◌, ℤ, pos, ◌+ℤ◌, Some, None, Option, ◌==◌}
+use Rattle.std.specs.Prelude.{◌≡◌, ℕ, zero, suc, ◌+◌, Bool, true, false, cond, ◌&&◌, List, [], ◌∷◌, ℤ, pos, ◌+ℤ◌, Some, None, Ok, Err, Option, ◌==◌}
 use Rattle.hourly.specs.Records.{HourFigures, no_deliveries}
 use Rattle.entries.specs.declared.entry.DayState.{DayState}
 use Rattle.entries.specs.declared.entry.DayState.TheVariants.{Open, Closed, Daily, Monthly, Final}
 use Rattle.entries.specs.declared.entry.Entry.{Entry}
 use Rattle.entries.specs.declared.entry.Entry.TheVariants.{Deposit, Withdraw, Register, Market, Close, Regulate, Meter, Evaluate}
-use Rattle.entries.specs.declared.reply.Reply.{Reply}
-use Rattle.entries.specs.declared.reply.Reply.TheVariants.{Accepted, Paid, Refused}
+use Rattle.entries.specs.Replies.{Reply}
 use Rattle.book.specs.Standing.{Standing, Terms, index}
 use Rattle.book.specs.Effects.{paid, traded}
 use Rattle.book.specs.Checks.{refusal_at}
@@ -39,9 +38,8 @@ abbrev pub step : Entry → Reply → Step
 step e r = record { entry = e; reply = r }
 
 abbrev pub accepted : Reply → Bool
-accepted Accepted = true
-accepted (Paid payments operator) = true
-accepted (Refused refusal) = false
+accepted (Ok receipt) = true
+accepted (Err refusal) = false
 
 -- Readers
 

@@ -2,9 +2,8 @@
 #![tactic(auto)]
 
 ghost use Rattle.std.specs.Prelude.{◌≡◌};
-ghost use Rattle.book.specs.Held.{held};
+ghost use Rattle.book.specs.Books.{held, terms_by};
 ghost use Rattle.book.specs.Posting.{afterwards, reply_on};
-ghost use Rattle.book.specs.Standing.{terms};
 ghost use Rattle.histories.specs.Agreement.{AlwaysAgree, Follows, OpenedReflects};
 ghost use Rattle.histories.specs.Covered.{KeepsCover, LeavesCovered};
 
@@ -16,11 +15,11 @@ use sharing::Sharing;
 
 // The book's own entering, seen from its histories.
 fn followed<P: Pricing, S: Sharing>(book: &mut Book<'_, P, S>, entry: &Entry) -> Reply
-    ensures reply { result ≡ reply_on (terms book.old.sizes (P.Pricing.map book.old.pricing) (S.Sharing.map book.old.sharing)) (held book.old) entry.now }
-    ensures held { held book.new ≡ afterwards (terms book.old.sizes (P.Pricing.map book.old.pricing) (S.Sharing.map book.old.sharing)) (held book.old) entry.now }
+    ensures reply { result ≡ reply_on (terms_by P.Pricing.map S.Sharing.map book.old) (held book.old) entry.now }
+    ensures held { held book.new ≡ afterwards (terms_by P.Pricing.map S.Sharing.map book.old) (held book.old) entry.now }
     ensures pricing { book.new.pricing ≡ book.old.pricing }
     ensures sharing { book.new.sharing ≡ book.old.sharing }
-    ensures follows { Follows (terms book.old.sizes (P.Pricing.map book.old.pricing) (S.Sharing.map book.old.sharing)) (held book.old) entry.now result (held book.new) }
+    ensures follows { Follows (terms_by P.Pricing.map S.Sharing.map book.old) (held book.old) entry.now result (held book.new) }
     ensures opening { OpenedReflects }
     ensures agreement { AlwaysAgree }
     ensures cover { KeepsCover }
@@ -33,11 +32,11 @@ fn followed<P: Pricing, S: Sharing>(book: &mut Book<'_, P, S>, entry: &Entry) ->
 // entry added. With this stand the laws that follow from it: a newly opened book reflects the empty history, so that book and history agree after any entries; no entry but
 // an evaluation takes a party from covered to uncovered; and an accepted registration, trade or withdrawal leaves the parties that it names covered.
 pub fn enter<P: Pricing, S: Sharing>(book: &mut Book<'_, P, S>, entry: &Entry) -> Reply
-    ensures reply { result ≡ reply_on (terms book.old.sizes (P.Pricing.map book.old.pricing) (S.Sharing.map book.old.sharing)) (held book.old) entry.now }
-    ensures held { held book.new ≡ afterwards (terms book.old.sizes (P.Pricing.map book.old.pricing) (S.Sharing.map book.old.sharing)) (held book.old) entry.now }
+    ensures reply { result ≡ reply_on (terms_by P.Pricing.map S.Sharing.map book.old) (held book.old) entry.now }
+    ensures held { held book.new ≡ afterwards (terms_by P.Pricing.map S.Sharing.map book.old) (held book.old) entry.now }
     ensures pricing { book.new.pricing ≡ book.old.pricing }
     ensures sharing { book.new.sharing ≡ book.old.sharing }
-    ensures follows { Follows (terms book.old.sizes (P.Pricing.map book.old.pricing) (S.Sharing.map book.old.sharing)) (held book.old) entry.now result (held book.new) }
+    ensures follows { Follows (terms_by P.Pricing.map S.Sharing.map book.old) (held book.old) entry.now result (held book.new) }
     ensures opening { OpenedReflects }
     ensures agreement { AlwaysAgree }
     ensures cover { KeepsCover }

@@ -10,8 +10,8 @@ use Rattle.answers.specs.declared.Answer.TheVariants.{Accepted, Paid as PaidAnsw
 use Rattle.entries.specs.declared.entry.Sizes.{Sizes}
 use Rattle.entries.specs.declared.refusal.Refusal.{Refusal as BookRefusal}
 use Rattle.entries.specs.declared.refusal.Refusal.TheVariants.{WrongSize}
-use Rattle.entries.specs.declared.reply.Reply.{Reply}
-use Rattle.entries.specs.declared.reply.Reply.TheVariants.{Accepted as Took, Paid, Refused}
+use Rattle.entries.specs.Replies.{Reply}
+use Rattle.entries.specs.declared.reply.Receipt.TheVariants.{Accepted as Took, Paid}
 use Rattle.entries.specs.Fields.{between, first_of}
 use Rattle.rules.specs.declared.choice.Rules.{Rules}
 use Rattle.rules.specs.Choice.{chosen, pricing_map, rules_checks, rules_chosen, sharing_map}
@@ -82,9 +82,9 @@ terms_of rules h = terms h.sizes (pricing_map rules.pricing) (sharing_map rules.
 
 -- a book's reply, with the number of its parties
 abbrev pub replied : ℕ → Reply → Result Answer Refusal
-replied parties Took = Ok Accepted
-replied parties (Paid payments operator) = Ok (PaidAnswer parties payments operator)
-replied parties (Refused r) = Err (OfBook r)
+replied parties (Ok Took) = Ok Accepted
+replied parties (Ok (Paid payments operator)) = Ok (PaidAnswer parties payments operator)
+replied parties (Err r) = Err (OfBook r)
 
 abbrev pub stated : ℤ → Result Statement BookRefusal → Result Answer Refusal
 stated party (Ok s) = Ok (StatementAnswer party s.balance s.need)

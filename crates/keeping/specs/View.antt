@@ -11,7 +11,8 @@ use Rattle.rules.specs.declared.choice.ChosenPricing.{ChosenPricing}
 use Rattle.rules.specs.declared.choice.ChosenSharing.{ChosenSharing}
 use Rattle.rules.specs.declared.choice.Rules.{Rules}
 use Rattle.book.specs.declared.book.Book.{Book}
-use Rattle.book.specs.Held.{Held, held}
+use Rattle.book.specs.Books.{held}
+use Rattle.book.specs.Held.{Held}
 use Rattle.keeping.specs.declared.keeper.Journal.{Journal}
 use Rattle.keeping.specs.declared.keeper.Stage.{Stage}
 use Rattle.keeping.specs.declared.keeper.Stage.TheVariants.{Empty, Opened}

@@ -2,7 +2,8 @@
 ghost use Rattle.std.specs.Prelude.{◌≡◌, ◌&&◌, length};
 ghost use Rattle.entries.specs.Fields.{between, first_of};
 ghost use Rattle.rules.specs.Choice.{chosen, rules_checks, rules_chosen};
-ghost use Rattle.book.specs.Held.{held, sized};
+ghost use Rattle.book.specs.Books.{held};
+ghost use Rattle.book.specs.Held.{sized};
 ghost use Rattle.book.specs.Opening.{sizes_of};
 ghost use Rattle.book.specs.Posting.{opened};
 ghost use Rattle.keeping.specs.Entered.{Fitting, FittingOpening, opening_on, roomy, ruled_by, sizes_in};

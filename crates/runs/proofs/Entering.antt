@@ -3,7 +3,7 @@ use Rattle.std.proofs.Common.{◌≡◌, ℕ, ◌+◌, ◌<◌, List, [], ◌∷
 use Rattle.std.proofs.lemmas.List.{drop_more, length-take, set_at, take_all}
 use Rattle.entries.specs.declared.entry.Entry.{Entry}
 use Rattle.entries.specs.declared.refusal.Refusal.{Refusal}
-use Rattle.entries.specs.declared.reply.Reply.{Reply}
+use Rattle.entries.specs.Replies.{Reply}
 use Rattle.book.specs.Standing.{Terms}
 use Rattle.book.specs.Held.{Held}
 use Rattle.book.specs.Posting.{after_refusal, afterwards, posted, refusal_on, reply_on}

@@ -22,12 +22,13 @@ use Rattle.entries.specs.declared.entry.Entry.{Entry}
 use Rattle.entries.specs.declared.entry.Entry.TheVariants.{Deposit, Withdraw, Register, Market, Close, Regulate, Meter, Evaluate}
 use Rattle.entries.specs.declared.refusal.Refusal.{Refusal}
 use Rattle.entries.specs.declared.refusal.Refusal.TheVariants.{WrongSize}
-use Rattle.entries.specs.declared.reply.Reply.{Reply}
+use Rattle.entries.specs.Replies.{Reply}
 use Rattle.book.specs.declared.book.Book.{Book}
 use Rattle.book.specs.declared.open.Returned.{Returned}
 use Rattle.book.specs.Standing.{Terms, hours, terms}
 use Rattle.book.specs.Effects.{market_cash}
-use Rattle.book.specs.Held.{Held, held, sized, standing_on}
+use Rattle.book.specs.Books.{held}
+use Rattle.book.specs.Held.{Held, sized, standing_on}
 use Rattle.book.specs.Opening.{openable, sizes_of}
 use Rattle.book.specs.Posting.{afterwards, opened, posted, refusal_on, reply_on}
 use Rattle.runs.specs.Sums.{sum_to}

@@ -2,7 +2,7 @@
 #![tactic(auto)]
 
 ghost use Rattle.std.specs.Prelude.{◌≡◌, ◌≤◌, true, length};
-ghost use Rattle.book.specs.Held.{held};
+ghost use Rattle.book.specs.Books.{held, terms_by};
 ghost use Rattle.book.specs.Opening.{sizes_of};
 ghost use Rattle.book.specs.Posting.{opened};
 ghost use Rattle.book.specs.Standing.{terms};
@@ -38,13 +38,13 @@ fn enter_all<P: Pricing, S: Sharing>(
     replies: &mut [Reply],
 )
     requires { length entries.now ≤ length replies.old }
-    ensures held { held book.new ≡ ran (terms book.old.sizes (P.Pricing.map book.old.pricing) (S.Sharing.map book.old.sharing)) (held book.old) entries.now }
-    ensures replies { replies.new ≡ replied (terms book.old.sizes (P.Pricing.map book.old.pricing) (S.Sharing.map book.old.sharing)) (held book.old) entries.now replies.old }
+    ensures held { held book.new ≡ ran (terms_by P.Pricing.map S.Sharing.map book.old) (held book.old) entries.now }
+    ensures replies { replies.new ≡ replied (terms_by P.Pricing.map S.Sharing.map book.old) (held book.old) entries.now replies.old }
     ensures pricing { book.new.pricing ≡ book.old.pricing }
     ensures sharing { book.new.sharing ≡ book.old.sharing }
 {
-    for i in 0..entries.len() {
-        replies[i] = book.enter(&entries[i]);
+    for (i, entry) in entries.iter().enumerate() {
+        replies[i] = book.enter(entry);
     }
 }
 

@@ -2,7 +2,7 @@
 use super::run;
 use book::pages::Pages;
 use entries::entry::Entry;
-use entries::reply::Reply;
+use entries::reply::{Receipt, Reply};
 use hourly::plain::{PlainCell, PlainDeliveries, PlainRecord};
 use pricing::ladder::Ladder;
 use refusals::Tells;
@@ -34,10 +34,10 @@ const RECORD: PlainRecord = PlainRecord {
 };
 
 // A reply that no entry of these runs has.
-const UNUSED: Reply = Reply::Paid {
+const UNUSED: Reply = Ok(Receipt::Paid {
     payments: [0; 20],
     operator: 0,
-};
+});
 
 const SALE: Entry = Entry::Register {
     day: 1,
@@ -66,9 +66,9 @@ const ENTRIES: [Entry; 6] = [
 // 0 for an accepted entry, the number of its refusal for a refused one, 99 for a place that was not written.
 fn code(reply: &Reply) -> u8 {
     match reply {
-        Reply::Accepted => 0,
-        Reply::Refused { refusal } => refusal.number(),
-        Reply::Paid { .. } => 99,
+        Ok(Receipt::Accepted) => 0,
+        Err(refusal) => refusal.number(),
+        Ok(Receipt::Paid { .. }) => 99,
     }
 }
 

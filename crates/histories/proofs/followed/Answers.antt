@@ -1,7 +1,7 @@
 use Rattle.std.proofs.Common.{sym, subst₂}
-use Rattle.entries.specs.declared.reply.Reply.{Reply}
-use Rattle.book.specs.Held.{Held, held}
-use Rattle.book.specs.Standing.{terms}
+use Rattle.entries.specs.Replies.{Reply}
+use Rattle.book.specs.Books.{held, terms_by}
+use Rattle.book.specs.Held.{Held}
 use Rattle.histories.specs.Agreement.{Follows}
 use Rattle.histories.proofs.Following.{opened-reflects, posted_follows}
 use Rattle.histories.proofs.Always.{always_agree}
@@ -12,7 +12,7 @@ pub returns : goal.returns
 returns g c =
     let b = c.args.book.now in
     let e = c.args.entry.now in
-    let m = terms b.sizes (g.P.Pricing.map b.pricing) (g.S.Sharing.map b.sharing) in
+    let m = terms_by g.P.Pricing.map g.S.Sharing.map b in
     record {
       reply = c.enter.ensures.answer;
       held = c.enter.ensures.held;

@@ -1,7 +1,7 @@
 // The line call: one line in, its answer out (docs/RULES.md, "The line call").
 ghost use Rattle.std.specs.Prelude.{◌≡◌, ◌<◌, length};
 ghost use Rattle.answers.specs.Writing.{Answerable};
-ghost use Rattle.book.specs.Held.{held};
+ghost use Rattle.book.specs.Books.{held};
 ghost use Rattle.keeping.specs.Told.{refused_as};
 ghost use Rattle.keeping.specs.View.{rules_of, view};
 ghost use Rattle.keeping.specs.Entered.{after_in, answer_in, book_after, book_answer, replied, stated};
@@ -16,7 +16,7 @@ use book::pages::Pages;
 use book::statement::Statement;
 use entries::entry::Sizes;
 use entries::refusal::Refusal as BookRefusal;
-use entries::reply::Reply;
+use entries::reply::{Receipt, Reply};
 use rules::choice::{ChosenPricing, ChosenSharing};
 use std::mem;
 use words::Form;
@@ -34,17 +34,16 @@ fn refused(refusal: Refusal) -> Answer
 }
 
 // What the book's reply is answered; of an evaluation, the payments of so many parties.
-fn replied(parties: u8, reply: &Reply) -> Result<Answer, Refusal>
-    ensures { result ≡ replied parties reply.now }
+fn replied(parties: u8, reply: Reply) -> Result<Answer, Refusal>
+    ensures { result ≡ replied parties reply }
 {
-    match *reply {
-        Reply::Accepted => Ok(Answer::Accepted),
-        Reply::Paid { payments, operator } => Ok(Answer::Paid {
+    match reply? {
+        Receipt::Accepted => Ok(Answer::Accepted),
+        Receipt::Paid { payments, operator } => Ok(Answer::Paid {
             parties: parties as usize,
             payments,
             operator,
         }),
-        Reply::Refused { refusal } => Err(Refusal::Book(refusal)),
     }
 }
 
@@ -73,8 +72,7 @@ fn answered_by(
         Form::Book { .. } => Err(Refusal::SecondBook),
         Form::Entry(entry) => {
             let Sizes { parties, .. } = book.sizes();
-            let reply = book.enter(entry);
-            replied(parties, &reply)
+            replied(parties, book.enter(entry))
         }
         Form::Show { party } => stated(*party, book.statement(*party)),
     }

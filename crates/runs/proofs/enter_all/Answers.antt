@@ -1,8 +1,8 @@
 use Rattle.std.proofs.Common.{◌≡◌, ◌<◌, length, pos, ap, ◌∙◌, arith}
 use Rattle.entries.specs.declared.entry.Entry.TheVariants.{Deposit}
 use Rattle.entries.specs.declared.entry.Sizes.{Sizes}
-use Rattle.book.specs.Held.{held}
-use Rattle.book.specs.Standing.{Terms, terms}
+use Rattle.book.specs.Books.{held, terms_by}
+use Rattle.book.specs.Standing.{terms}
 use Rattle.runs.proofs.Entering.{entered_all, entered_more, same-sizes}
 use Rattle.runs.proofs.enter_all.Goals as goal
 
@@ -17,12 +17,12 @@ loop-i-preserved g c =
     let i = c.loop-i.i in
     let ps = c.loop-i.replies in
     let w = c.loop-i.invariant.0 in
-    let m : Terms = terms a.sizes (f a.pricing) (k a.sharing) in
-    let n : Terms = terms b.sizes (f b.pricing) (k b.sharing) in
+    let m = terms_by f k a in
+    let n = terms_by f k b in
     let same : n ≡ m =
     ap (λ (s : Sizes). terms s (f b.pricing) (k b.sharing)) (same-sizes m (held a) es rs i (held b) ps w)
-    ∙ ap (λ p. terms a.sizes (f p) (k b.sharing)) c.loop-i.invariant.1
-    ∙ ap (λ s. terms a.sizes (f a.pricing) (k s)) c.loop-i.invariant.2 in
+    ∙ ap (λ p. terms a.ledger.sizes (f p) (k b.sharing)) c.loop-i.invariant.1
+    ∙ ap (λ s. terms a.ledger.sizes (f a.pricing) (k s)) c.loop-i.invariant.2 in
     let here : i < length rs = omega arith in (
       entered_more m n (held a) es rs i (held b) (held c.enter.new.self) ps (Deposit (pos 0) (pos 0)) c.enter.result c.loop-i-test.true here same w c.enter.ensures.answer c.enter.ensures.held,
       c.enter.ensures.pricing ∙ c.loop-i.invariant.1,
@@ -35,7 +35,7 @@ returns g c =
     let k = g.S.Sharing.map in
     let a = c.args.book.now in
     let es = c.args.entries.now in
-    let m : Terms = terms a.sizes (f a.pricing) (k a.sharing) in
+    let m = terms_by f k a in
     let end : c.loop-i.i ≡ length es = omega arith in
     let w = entered_all m (held a) es c.args.replies.now c.loop-i.i (held c.loop-i.book) c.loop-i.replies end c.loop-i.invariant.0 in
     record {

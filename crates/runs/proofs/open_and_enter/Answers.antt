@@ -1,5 +1,6 @@
 use Rattle.std.proofs.Common.{◌≡◌, ap, ◌∙◌, rules}
-use Rattle.book.specs.Held.{Held, held}
+use Rattle.book.specs.Books.{held}
+use Rattle.book.specs.Held.{Held}
 use Rattle.book.specs.Opening.{sizes_of}
 use Rattle.book.specs.Posting.{opened}
 use Rattle.book.specs.Standing.{terms}

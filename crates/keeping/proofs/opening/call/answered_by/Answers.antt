@@ -1,5 +1,5 @@
 use Rattle.std.proofs.Common.{◌≡◌, sym, refl, ap, w64, to_z, of_z, rules}
-use Rattle.book.specs.Held.{held}
+use Rattle.book.specs.Books.{held}
 use Rattle.keeping.specs.Entered.{book_after}
 use Rattle.keeping.specs.View.{rules_of}
 use Rattle.keeping.proofs.Showing.{shown}
