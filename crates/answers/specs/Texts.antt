@@ -5,23 +5,23 @@
 --   ok_text, no_text, pay_text, operator_text, show_text     the five forms of an answer, of a line's number
 --   pay_lines line p hs   a `pay` for each number of halers, the parties numbered from p on
 --   answer_text line a    the bytes that answer a line by a
-use Rattle.std.specs.Prelude.{ℕ, ◌+◌, min, List, [], ◌∷◌, ◌++◌, take, ℤ, pos, codes}
+use Rattle.std.specs.Prelude.{ℕ, min, List, [], ◌∷◌, ◌++◌, take, ℤ, pos, codes}
 use Rattle.std.specs.Fmt.{signed_decimal}
+use Rattle.std.specs.List.{flat_map, enumerate_from}
 use Rattle.answers.specs.declared.Answer.{Answer}
 use Rattle.answers.specs.declared.Answer.TheVariants.{Accepted, Refused, Paid, Statement}
 
 -- ` (name number)`, the number with its minus and no leading zero
-abbrev pub field_text : List ℕ → ℤ → List ℕ
+unfoldable pub field_text : List ℕ → ℤ → List ℕ
 field_text name z = 32 ∷ 40 ∷ (name ++ (32 ∷ (signed_decimal z ++ (41 ∷ []))))
 
--- the fields, the last bracket and byte 10
+-- one field after another
 abbrev pub fields_text : List (List ℕ × ℤ) → List ℕ
-fields_text [] = 41 ∷ 10 ∷ []
-fields_text (f ∷ fs) = field_text f.0 f.1 ++ fields_text fs
+fields_text fs = flat_map (λ f. field_text f.0 f.1) fs
 
 -- `(head (name number) ..)` and byte 10
-abbrev pub form_text : List ℕ → List (List ℕ × ℤ) → List ℕ
-form_text head fs = (40 ∷ head) ++ fields_text fs
+unfoldable pub form_text : List ℕ → List (List ℕ × ℤ) → List ℕ
+form_text head fs = (40 ∷ head) ++ (fields_text fs ++ (41 ∷ 10 ∷ []))
 
 -- `(ok (line L))`
 abbrev pub ok_text : ℤ → List ℕ
@@ -39,8 +39,7 @@ pay_text line party haler =
 
 -- a `pay` for each party, numbered from this number on
 abbrev pub pay_lines : ℤ → ℕ → List ℤ → List ℕ
-pay_lines line party [] = []
-pay_lines line party (h ∷ hs) = pay_text line party h ++ pay_lines line (party + 1) hs
+pay_lines line party hs = flat_map (λ p. pay_text line p.0 p.1) (enumerate_from party hs)
 
 -- `(operator (line L) (haler H))`
 abbrev pub operator_text : ℤ → ℤ → List ℕ

@@ -8,7 +8,7 @@ mod writer;
 pub use writer::{ANSWER_BYTES, answerable, write};
 
 // What the line of a journal is answered.
-#[derive(Clone, Copy)]
+#[derive(Clone, Copy, Debug, PartialEq, Eq)]
 pub enum Answer {
     // The entry was accepted.
     Accepted,
@@ -18,7 +18,8 @@ pub enum Answer {
         number: u8,
         place: i64,
     },
-    // An evaluation paid: the halers of the first `parties` of 20 parties, and the operator's new total.
+    // An evaluation paid: the halers of the first `parties` of 20 parties, and the operator's new total. The count stands beside the
+    // array since any count may be told, and the kit's list without heap (`ArrayVec`) is not `Copy`.
     Paid {
         parties: usize,
         payments: [i64; 20],

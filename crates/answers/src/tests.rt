@@ -2,20 +2,11 @@
 use super::{Answer, write};
 
 fn wrote(out: &[u8], len: Option<usize>, text: &[u8]) -> bool {
-    match len {
-        Some(n) => n <= out.len() && &out[0..n] == text,
-        None => false,
-    }
+    len.is_some_and(|n| out.get(..n) == Some(text))
 }
 
 fn untouched(out: &[u8], from: usize) -> bool {
-    let mut all = true;
-    for (i, b) in out.iter().enumerate() {
-        if i >= from && *b != 7 {
-            all = false;
-        }
-    }
-    all
+    out.iter().skip(from).all(|b| *b == 7)
 }
 
 #[test]

@@ -3,7 +3,7 @@ use Rattle.std.specs.Prelude.{ℕ, ◌+◌, ◌*◌, Bool, not, ◌&&◌, List, 
 use Rattle.hourly.specs.declared.plain.PlainCell.{PlainCell}
 use Rattle.hourly.specs.Bounds.{within}
 use Rattle.hourly.specs.Cells.{blank, read}
-use Rattle.needs.specs.declared.trade.Trade.{Trade}
+use Rattle.cover.specs.declared.trade.Trade.{Trade}
 use Rattle.entries.specs.declared.entry.DayState.{DayState}
 use Rattle.entries.specs.declared.entry.Sizes.{Sizes}
 use Rattle.entries.specs.declared.entry.Entry.{Entry}

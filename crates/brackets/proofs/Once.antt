@@ -16,7 +16,7 @@ first_bad_once line c d x y =
     (cases_order x.0 y.0)
 
 not_clean : {X : Type 0} (line : List ℕ) (c : ℕ) → FirstBad line c → Clean line → X
-not_clean line c x h = absurd (both_ways (admitted (get_or line x.0 0)) x.3 (h x.0 x.2))
+not_clean line c x h = absurd (both_ways (admitted (get_or line x.0 0)) x.3 (h x.0 0 x.2))
 
 pub bracket_once : (line : List ℕ) (a b : Result (Unit {0}) BracketFault) → Brackets line a → Brackets line b → a ≡ b
 bracket_once line (Err Long) (Err Long) x y = refl

@@ -1,7 +1,8 @@
 -- The scanner reads just the forms, so where it stops no form goes on.
 use Rattle.std.proofs.Common.{◌≡◌, ℕ, ◌+◌, ◌-◌, ◌<◌, ◌≤◌, true, eqb, ◌⊎◌, List, [], ◌∷◌, ◌++◌, length, get_or, take, drop, Some, None, Option, sym, refl, ap, ◌∙◌, subst, inl, inr, ⊎_elim, append_assoc, arith, take-append-drop}
 use Rattle.std.proofs.lemmas.List.{take_more, take_all, take-take}
-use Rattle.std.specs.List.{AllByRecursion}
+use Rattle.std.specs.List.{All}
+use Rattle.std.proofs.lemmas.List.Elements.{All-nil, All-cons, All-head, All-tail}
 use Rattle.std.proofs.lemmas.Bool.{cond_both, cond-true, eqb-true, cases_lt}
 use Rattle.std.proofs.lemmas.Bool.Decides.{nat_tests}
 use Rattle.brackets.specs.declared.State.{State}
@@ -42,15 +43,15 @@ after sg ds fs = sg ++ (ds ++ (41 ∷ rest fs))
 -- t completes a form in this state
 abbrev Rest : State → List ℕ → Type 0
 Rest Start t = WellShaped t
-Rest Bracket t = (w : List ℕ) × (fs : List Field) × Word w × AllByRecursion GoodField fs × (t ≡ w ++ rest fs)
-Rest Head t = (w : List ℕ) × (fs : List Field) × AllByRecursion Letter w × AllByRecursion GoodField fs × (t ≡ w ++ rest fs)
-Rest Gap t = (f : Field) × (fs : List Field) × GoodField f × AllByRecursion GoodField fs × (t ≡ 40 ∷ (f.name ++ (32 ∷ after f.sign f.digits fs)))
-Rest Inner t = (f : Field) × (fs : List Field) × GoodField f × AllByRecursion GoodField fs × (t ≡ f.name ++ (32 ∷ after f.sign f.digits fs))
-Rest Name t = (w : List ℕ) × (sg : List ℕ) × (ds : List ℕ) × (fs : List Field) × AllByRecursion Letter w × Signed sg × Numeral ds × AllByRecursion GoodField fs × (t ≡ w ++ (32 ∷ after sg ds fs))
-Rest Sign t = (sg : List ℕ) × (ds : List ℕ) × (fs : List Field) × Signed sg × Numeral ds × AllByRecursion GoodField fs × (t ≡ after sg ds fs)
-Rest Minus t = (ds : List ℕ) × (fs : List Field) × Numeral ds × AllByRecursion GoodField fs × (t ≡ ds ++ (41 ∷ rest fs))
-Rest Digits t = (ds : List ℕ) × (fs : List Field) × AllByRecursion Digit ds × AllByRecursion GoodField fs × (t ≡ ds ++ (41 ∷ rest fs))
-Rest Between t = (fs : List Field) × AllByRecursion GoodField fs × (t ≡ rest fs)
+Rest Bracket t = (w : List ℕ) × (fs : List Field) × Word w × All GoodField fs × (t ≡ w ++ rest fs)
+Rest Head t = (w : List ℕ) × (fs : List Field) × All Letter w × All GoodField fs × (t ≡ w ++ rest fs)
+Rest Gap t = (f : Field) × (fs : List Field) × GoodField f × All GoodField fs × (t ≡ 40 ∷ (f.name ++ (32 ∷ after f.sign f.digits fs)))
+Rest Inner t = (f : Field) × (fs : List Field) × GoodField f × All GoodField fs × (t ≡ f.name ++ (32 ∷ after f.sign f.digits fs))
+Rest Name t = (w : List ℕ) × (sg : List ℕ) × (ds : List ℕ) × (fs : List Field) × All Letter w × Signed sg × Numeral ds × All GoodField fs × (t ≡ w ++ (32 ∷ after sg ds fs))
+Rest Sign t = (sg : List ℕ) × (ds : List ℕ) × (fs : List Field) × Signed sg × Numeral ds × All GoodField fs × (t ≡ after sg ds fs)
+Rest Minus t = (ds : List ℕ) × (fs : List Field) × Numeral ds × All GoodField fs × (t ≡ ds ++ (41 ∷ rest fs))
+Rest Digits t = (ds : List ℕ) × (fs : List Field) × All Digit ds × All GoodField fs × (t ≡ ds ++ (41 ∷ rest fs))
+Rest Between t = (fs : List Field) × All GoodField fs × (t ≡ rest fs)
 Rest End t = t ≡ []
 
 both : {a b : ℕ} {s t : List ℕ} → a ≡ b → s ≡ t → a ∷ s ≡ b ∷ t
@@ -63,15 +64,15 @@ back Start b t h ih =
     (λ e k. none t k) h
 back Bracket b t h ih =
     cond_both (letter b) (Some Head) None (λ o. run o t ≡ Some End → Rest Bracket (b ∷ t))
-    (λ e k. let r = ih Head k in (b ∷ r.0, r.1, (omega arith, (letter_is b e, r.2)), r.3, both refl r.4))
+    (λ e k. let r = ih Head k in (b ∷ r.0, r.1, (omega arith, All-cons Letter b r.0 (letter_is b e) r.2), r.3, both refl r.4))
     (λ e k. none t k) h
 back Head b t h ih =
     cond_both (letter b) (Some Head) _ (λ o. run o t ≡ Some End → Rest Head (b ∷ t))
-    (λ e k. let r = ih Head k in (b ∷ r.0, r.1, (letter_is b e, r.2), r.3, both refl r.4))
+    (λ e k. let r = ih Head k in (b ∷ r.0, r.1, All-cons Letter b r.0 (letter_is b e) r.2, r.3, both refl r.4))
     (λ _. cond_both (eqb b 32) (Some Gap) _ (λ o. run o t ≡ Some End → Rest Head (b ∷ t))
-    (λ e k. let r = ih Gap k in ([], r.0 ∷ r.1, tt, (r.2, r.3), both (eqb-true b 32 e) r.4))
+    (λ e k. let r = ih Gap k in ([], r.0 ∷ r.1, All-nil Letter, All-cons GoodField r.0 r.1 r.2 r.3, both (eqb-true b 32 e) r.4))
     (λ _. cond_both (eqb b 41) (Some End) None (λ o. run o t ≡ Some End → Rest Head (b ∷ t))
-    (λ e k. ([], [], tt, tt, both (eqb-true b 41 e) (ih End k)))
+    (λ e k. ([], [], All-nil Letter, All-nil GoodField, both (eqb-true b 41 e) (ih End k)))
     (λ e k. none t k))) h
 back Gap b t h ih =
     cond_both (eqb b 40) (Some Inner) None (λ o. run o t ≡ Some End → Rest Gap (b ∷ t))
@@ -81,35 +82,35 @@ back Inner b t h ih =
     cond_both (letter b) (Some Name) None (λ o. run o t ≡ Some End → Rest Inner (b ∷ t))
     (λ e k.
     let r = ih Name k in
-    (record { name = b ∷ r.0; sign = r.1; digits = r.2 }, r.3, record { named = (omega arith, (letter_is b e, r.4)); signed = r.5; counted = r.6 }, r.7, both refl r.8))
+    (record { name = b ∷ r.0; sign = r.1; digits = r.2 }, r.3, record { named = (omega arith, All-cons Letter b r.0 (letter_is b e) r.4); signed = r.5; counted = r.6 }, r.7, both refl r.8))
     (λ e k. none t k) h
 back Name b t h ih =
     cond_both (letter b) (Some Name) _ (λ o. run o t ≡ Some End → Rest Name (b ∷ t))
-    (λ e k. let r = ih Name k in (b ∷ r.0, r.1, r.2, r.3, (letter_is b e, r.4), r.5, r.6, r.7, both refl r.8))
+    (λ e k. let r = ih Name k in (b ∷ r.0, r.1, r.2, r.3, All-cons Letter b r.0 (letter_is b e) r.4, r.5, r.6, r.7, both refl r.8))
     (λ _. cond_both (eqb b 32) (Some Sign) None (λ o. run o t ≡ Some End → Rest Name (b ∷ t))
-    (λ e k. let r = ih Sign k in ([], r.0, r.1, r.2, tt, r.3, r.4, r.5, both (eqb-true b 32 e) r.6))
+    (λ e k. let r = ih Sign k in ([], r.0, r.1, r.2, All-nil Letter, r.3, r.4, r.5, both (eqb-true b 32 e) r.6))
     (λ e k. none t k)) h
 back Sign b t h ih =
     cond_both (digit b) (Some Digits) _ (λ o. run o t ≡ Some End → Rest Sign (b ∷ t))
-    (λ e k. let r = ih Digits k in ([], b ∷ r.0, r.1, inl refl, (omega arith, (digit_is b e, r.2)), r.3, both refl r.4))
+    (λ e k. let r = ih Digits k in ([], b ∷ r.0, r.1, inl refl, (omega arith, All-cons Digit b r.0 (digit_is b e) r.2), r.3, both refl r.4))
     (λ _. cond_both (eqb b 45) (Some Minus) None (λ o. run o t ≡ Some End → Rest Sign (b ∷ t))
     (λ e k. let r = ih Minus k in (45 ∷ [], r.0, r.1, inr refl, r.2, r.3, both (eqb-true b 45 e) r.4))
     (λ e k. none t k)) h
 back Minus b t h ih =
     cond_both (digit b) (Some Digits) None (λ o. run o t ≡ Some End → Rest Minus (b ∷ t))
-    (λ e k. let r = ih Digits k in (b ∷ r.0, r.1, (omega arith, (digit_is b e, r.2)), r.3, both refl r.4))
+    (λ e k. let r = ih Digits k in (b ∷ r.0, r.1, (omega arith, All-cons Digit b r.0 (digit_is b e) r.2), r.3, both refl r.4))
     (λ e k. none t k) h
 back Digits b t h ih =
     cond_both (digit b) (Some Digits) _ (λ o. run o t ≡ Some End → Rest Digits (b ∷ t))
-    (λ e k. let r = ih Digits k in (b ∷ r.0, r.1, (digit_is b e, r.2), r.3, both refl r.4))
+    (λ e k. let r = ih Digits k in (b ∷ r.0, r.1, All-cons Digit b r.0 (digit_is b e) r.2, r.3, both refl r.4))
     (λ _. cond_both (eqb b 41) (Some Between) None (λ o. run o t ≡ Some End → Rest Digits (b ∷ t))
-    (λ e k. let r = ih Between k in ([], r.0, tt, r.1, both (eqb-true b 41 e) r.2))
+    (λ e k. let r = ih Between k in ([], r.0, All-nil Digit, r.1, both (eqb-true b 41 e) r.2))
     (λ e k. none t k)) h
 back Between b t h ih =
     cond_both (eqb b 32) (Some Gap) _ (λ o. run o t ≡ Some End → Rest Between (b ∷ t))
-    (λ e k. let r = ih Gap k in (r.0 ∷ r.1, (r.2, r.3), both (eqb-true b 32 e) r.4))
+    (λ e k. let r = ih Gap k in (r.0 ∷ r.1, All-cons GoodField r.0 r.1 r.2 r.3, both (eqb-true b 32 e) r.4))
     (λ _. cond_both (eqb b 41) (Some End) None (λ o. run o t ≡ Some End → Rest Between (b ∷ t))
-    (λ e k. ([], tt, both (eqb-true b 41 e) (ih End k)))
+    (λ e k. ([], All-nil GoodField, both (eqb-true b 41 e) (ih End k)))
     (λ e k. none t k)) h
 back End b t h ih = none t h
 
@@ -120,13 +121,13 @@ pub sound : (t : List ℕ) (s : State) → run (Some s) t ≡ Some End → Rest 
 sound [] s h = at_end s h
 sound (b ∷ t) s h = back s b t h (sound t)
 
-loops : (s : State) (P : ℕ → Type 0) → ((b : ℕ) → P b → step s b ≡ Some s) → (w t : List ℕ) → AllByRecursion P w → run (Some s) (w ++ t) ≡ run (Some s) t
+loops : (s : State) (P : ℕ → Type 0) → ((b : ℕ) → P b → step s b ≡ Some s) → (w t : List ℕ) → All P w → run (Some s) (w ++ t) ≡ run (Some s) t
 loops s P f [] t a = refl
-loops s P f (b ∷ w) t a = ap (λ o. run o (w ++ t)) (f b a.0) ∙ loops s P f w t a.1
+loops s P f (b ∷ w) t a = ap (λ o. run o (w ++ t)) (f b (All-head P b w a)) ∙ loops s P f w t (All-tail P b w a)
 
-enters : (s u : State) (P : ℕ → Type 0) → ((b : ℕ) → P b → step s b ≡ Some u) → ((b : ℕ) → P b → step u b ≡ Some u) → (w t : List ℕ) → 0 < length w → AllByRecursion P w → run (Some s) (w ++ t) ≡ run (Some u) t
+enters : (s u : State) (P : ℕ → Type 0) → ((b : ℕ) → P b → step s b ≡ Some u) → ((b : ℕ) → P b → step u b ≡ Some u) → (w t : List ℕ) → 0 < length w → All P w → run (Some s) (w ++ t) ≡ run (Some u) t
 enters s u P f g [] t n a = absurd (omega arith)
-enters s u P f g (b ∷ w) t n a = ap (λ o. run o (w ++ t)) (f b a.0) ∙ loops u P g w t a.1
+enters s u P f g (b ∷ w) t n a = ap (λ o. run o (w ++ t)) (f b (All-head P b w a)) ∙ loops u P g w t (All-tail P b w a)
 
 signs : (sg ds t : List ℕ) → Signed sg → Numeral ds → run (Some Sign) (sg ++ (ds ++ t)) ≡ run (Some Digits) t
 signs sg ds t s n =
@@ -135,15 +136,16 @@ signs sg ds t s n =
     (λ e. ap (λ x. run (Some Sign) (x ++ (ds ++ t))) e ∙ enters Minus Digits Digit (λ b l. cond-true (digit b) _ _ (is_digit b l)) (λ b l. cond-true (digit b) _ _ (is_digit b l)) ds t n.0 n.1)
     s
 
-fields_run : (fs : List Field) → AllByRecursion GoodField fs → run (Some Between) (rest fs) ≡ Some End
+fields_run : (fs : List Field) → All GoodField fs → run (Some Between) (rest fs) ≡ Some End
 fields_run [] a = refl
 fields_run (f ∷ fs) a =
-    enters Inner Name Letter (λ b l. cond-true (letter b) _ _ (is_letter b l)) (λ b l. cond-true (letter b) _ _ (is_letter b l)) f.name (32 ∷ after f.sign f.digits fs) a.0.named.0 a.0.named.1
-    ∙ signs f.sign f.digits (41 ∷ rest fs) a.0.signed a.0.counted
-    ∙ fields_run fs a.1
+    let g = All-head GoodField f fs a in
+    enters Inner Name Letter (λ b l. cond-true (letter b) _ _ (is_letter b l)) (λ b l. cond-true (letter b) _ _ (is_letter b l)) f.name (32 ∷ after f.sign f.digits fs) g.named.0 g.named.1
+    ∙ signs f.sign f.digits (41 ∷ rest fs) g.signed g.counted
+    ∙ fields_run fs (All-tail GoodField f fs a)
 
 -- after a head, too
-head_run : (fs : List Field) → AllByRecursion GoodField fs → run (Some Head) (rest fs) ≡ Some End
+head_run : (fs : List Field) → All GoodField fs → run (Some Head) (rest fs) ≡ Some End
 head_run [] a = refl
 head_run (f ∷ fs) a = fields_run (f ∷ fs) a
 

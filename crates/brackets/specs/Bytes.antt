@@ -5,6 +5,7 @@
 --   Clean line            it holds no other
 --   FirstBad line col     the first other byte stands at column col, from 1
 use Rattle.std.specs.Prelude.{◌≡◌, ℕ, ◌+◌, ◌<◌, ◌≤◌, Bool, true, false, cond, List, length, ◌==◌, nat_le, slice_index}
+use Rattle.std.specs.List.{All}
 
 -- a to z
 abbrev pub Letter : ℕ → Type 0
@@ -29,7 +30,7 @@ abbrev pub Admitted : ℕ → Type 0
 Admitted b = admitted b ≡ true
 
 abbrev pub Clean : List ℕ → Type 0
-Clean line = (k : ℕ) → k < length line → Admitted (slice_index line k)
+Clean line = All Admitted line
 
 -- the byte at column col is not admitted, and each before it is
 abbrev pub FirstBad : List ℕ → ℕ → Type 0

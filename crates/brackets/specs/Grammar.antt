@@ -8,16 +8,16 @@
 --   Stuck line col    the line is no form, and col is the first column that cannot go on
 --   Only line col     no other column is
 use Rattle.std.specs.Prelude.{◌≡◌, ℕ, ◌+◌, ◌-◌, ◌<◌, ◌≤◌, ◌⊎◌, List, [], ◌∷◌, ◌++◌, length, take}
-use Rattle.std.specs.List.{AllByRecursion}
+use Rattle.std.specs.List.{All}
 use Rattle.brackets.specs.Bytes.{Letter, Digit}
 
 -- one or more letters
 abbrev pub Word : List ℕ → Type 0
-Word w = (0 < length w) × AllByRecursion Letter w
+Word w = (0 < length w) × All Letter w
 
 -- one or more digits
 abbrev pub Numeral : List ℕ → Type 0
-Numeral v = (0 < length v) × AllByRecursion Digit v
+Numeral v = (0 < length v) × All Digit v
 
 -- a field: its name, the minus of its number if it has one, and the number's digits
 pub record Field : Type 0 where
@@ -42,7 +42,7 @@ text head fields = 40 ∷ (head ++ rest fields)
 
 -- the line is the form with this head and these fields
 abbrev pub IsForm : List ℕ → List ℕ → List Field → Type 0
-IsForm line head fields = Word head × AllByRecursion GoodField fields × (line ≡ text head fields)
+IsForm line head fields = Word head × All GoodField fields × (line ≡ text head fields)
 
 -- the line is a form
 abbrev pub WellShaped : List ℕ → Type 0

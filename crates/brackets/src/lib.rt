@@ -1,7 +1,7 @@
 // Layer 1, brackets: whether a line has the form's shape (docs/RULES.md, "The journal's form" and "Refusals").
 #![tactic(auto)]
 
-ghost use Rattle.std.specs.Prelude.{◌≡◌, ℕ, ◌≤◌, length, MatchOption, MatchResult};
+ghost use Rattle.std.specs.Prelude.{◌≡◌, ℕ, ◌+◌, ◌≤◌, length, MatchOption, MatchResult};
 ghost use Rattle.brackets.specs.Bytes.{admitted, Clean, FirstBad};
 ghost use Rattle.brackets.specs.Grammar.{WellShaped, Stuck, Only};
 ghost use Rattle.brackets.specs.Scanner.{step};
@@ -11,7 +11,7 @@ ghost use Rattle.brackets.specs.Layer.{Brackets};
 const LONGEST: usize = 200;
 
 // Why a line is no form, with the column from 1.
-#[derive(Clone, Copy)]
+#[derive(Clone, Copy, Debug, PartialEq, Eq)]
 pub enum BracketFault {
     Long,
     Byte { column: u8 },
@@ -30,16 +30,11 @@ fn admits(b: u8) -> bool
     }
 }
 
-// The column of the first byte that no line may hold.
+// Where the first byte stands that no line may hold.
 fn first_unadmitted(line: &[u8]) -> Option<usize>
-    ensures { MatchOption result (Clean line.now) (λ col. FirstBad line.now col) }
+    ensures { MatchOption result (Clean line.now) (λ i. FirstBad line.now (i + 1)) }
 {
-    for (i, b) in line.iter().enumerate() {
-        if !admits(*b) {
-            return Some(i + 1);
-        }
-    }
-    None
+    line.iter().position(|b| !admits(*b))
 }
 
 // What of a form has been read.
@@ -90,10 +85,10 @@ fn scan(line: &[u8]) -> Result<(), usize>
 {
     let mut s = State::Start;
     for (i, b) in line.iter().enumerate() {
-        match advance(s, *b) {
-            Some(next) => s = next,
-            None => return Err(i + 1),
-        }
+        let Some(next) = advance(s, *b) else {
+            return Err(i + 1);
+        };
+        s = next;
     }
     if s == State::End {
         Ok(())
@@ -109,46 +104,41 @@ pub fn brackets(line: &[u8]) -> Result<(), BracketFault>
     if line.len() > LONGEST {
         return Err(BracketFault::Long);
     }
-    if let Some(c) = first_unadmitted(line) {
-        let column = c as u8;
+    if let Some(i) = first_unadmitted(line) {
+        let column = i as u8 + 1;
         return Err(BracketFault::Byte { column });
     }
-    match scan(line) {
-        Ok(()) => Ok(()),
-        Err(c) => {
-            let column = c as u8;
-            Err(BracketFault::Shape { column })
-        }
-    }
+    scan(line).map_err(|column| BracketFault::Shape {
+        column: column as u8,
+    })
 }
 
 #[cfg(test)]
 mod tests {
     use super::{BracketFault, brackets};
 
-    // 0 for a form, else the refusal's number and column.
-    fn told(line: &[u8]) -> (u8, u8) {
-        match brackets(line) {
-            Ok(()) => (0, 0),
-            Err(BracketFault::Long) => (23, 201),
-            Err(BracketFault::Byte { column }) => (21, column),
-            Err(BracketFault::Shape { column }) => (22, column),
-        }
-    }
-
     #[test]
     fn forms(rt: HostRuntime) {
-        assert_eq!(rt; told(b"(a)"), (0, 0));
-        assert_eq!(rt; told(b"(close (day -01))"), (0, 0));
+        assert_eq!(rt; brackets(b"(a)"), Ok(()));
+        assert_eq!(rt; brackets(b"(close (day -01))"), Ok(()));
     }
 
     #[test]
     fn first_and_last_columns(rt: HostRuntime) {
-        assert_eq!(rt; told(b""), (22, 1));
-        assert_eq!(rt; told(b"(close (day -))"), (22, 14));
-        assert_eq!(rt; told(b"(close (day 1)"), (22, 15));
-        assert_eq!(rt; told(b"((A"), (21, 3));
-        assert_eq!(rt; told(&[b'('; 200]), (22, 2));
-        assert_eq!(rt; told(&[b'A'; 201]), (23, 201));
+        assert_eq!(rt; brackets(b""), Err(BracketFault::Shape { column: 1 }));
+        assert_eq!(rt;
+            brackets(b"(close (day -))"),
+            Err(BracketFault::Shape { column: 14 })
+        );
+        assert_eq!(rt;
+            brackets(b"(close (day 1)"),
+            Err(BracketFault::Shape { column: 15 })
+        );
+        assert_eq!(rt; brackets(b"((A"), Err(BracketFault::Byte { column: 3 }));
+        assert_eq!(rt;
+            brackets(&[b'('; 200]),
+            Err(BracketFault::Shape { column: 2 })
+        );
+        assert_eq!(rt; brackets(&[b'A'; 201]), Err(BracketFault::Long));
     }
 }

@@ -1,3 +1,3 @@
-pub mod Exposures
-pub mod Totals
 pub mod Tables
+pub mod Totals
+pub mod Bounds

@@ -3,7 +3,8 @@
 --   in_use          the table of the rules
 --   in_range ps     no price of a table is above 99,999
 --   exposure p kwh  tenths that a position of an hour counts at that hour's prices
-use Rattle.std.specs.Prelude.{ℕ, ◌+◌, ◌*◌, Bool, true, ◌&&◌, List, [], ◌∷◌, ◌++◌, replicate, ℤ, pos, negsuc, nat_le}
+use Rattle.std.specs.Prelude.{ℕ, ◌+◌, ◌*◌, Bool, ◌&&◌, List, ◌++◌, replicate, ℤ, pos, negsuc, nat_le}
+use Rattle.std.specs.List.{list_all}
 use Rattle.cover.specs.declared.hour.HourPrices.{HourPrices}
 
 abbrev pub prices : ℕ → ℕ → HourPrices
@@ -19,8 +20,7 @@ pair_in_range p = nat_le p.short 99999 && nat_le p.long 99999
 
 -- those of every hour are
 abbrev pub in_range : List HourPrices → Bool
-in_range [] = true
-in_range (p ∷ ps) = pair_in_range p && in_range ps
+in_range ps = list_all pair_in_range ps
 
 -- energy sold, a positive position, counts at the short price; energy bought, the magnitude of a negative one, at the long price
 abbrev pub exposure : HourPrices → ℤ → ℕ

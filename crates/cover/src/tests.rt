@@ -71,7 +71,7 @@ fn days_that_do_not_count(rt: HostRuntime) {
 #[test]
 fn sizes_that_do_not_fit(rt: HostRuntime) {
     let prices = ParametricPrices::in_use();
-    assert_eq!(rt; need(&prices, &[], &[]), None);
+    assert_eq!(rt; need::<bool>(&prices, &[], &[]), None);
     assert_eq!(rt; need(&prices, &[true], &[CLEARED; 23]), None);
     assert_eq!(rt; need(&prices, &[true], &[CLEARED; 25]), None);
     assert_eq!(rt; need(&prices, &[true; 62], &[CLEARED; 1_488]), Some(0));

@@ -1,5 +1,5 @@
 -- The bounds of cells and hour records. No type of the crate is named here, so that the types can cite it. Assumes nothing.
-use Rattle.std.specs.Prelude.{ℕ, ◌*◌, Bool, true, false, ◌&&◌, ℤ, pos, ◌*ℤ◌, Some, None, Option, ◌==◌, int_le, nat_le, unsigned_abs}
+use Rattle.std.specs.Prelude.{ℕ, ◌*◌, Bool, true, false, cond, ◌&&◌, ℤ, pos, ◌*ℤ◌, Some, None, Option, ◌==◌, int_le, int_lt, nat_le, unsigned_abs}
 
 -- z lies within ±n
 abbrev pub within : ℕ → ℤ → Bool
@@ -19,3 +19,8 @@ not_beyond false total bottom = int_le bottom total
 abbrev pub deliveries_ok : Bool → ℕ → ℤ → Option ℤ → Bool
 deliveries_ok up kwh total None = kwh == 0 && unsigned_abs total == 0
 deliveries_ok up kwh total (Some extreme) = nat_le 1 kwh && nat_le kwh 499999 && within 99999 extreme && within (99999 * kwh) total && not_beyond up total (pos kwh *ℤ extreme)
+
+-- the extreme one of two prices: the highest upward, the lowest downward
+abbrev pub further : Bool → ℤ → ℤ → ℤ
+further true former price = cond (int_lt former price) price former
+further false former price = cond (int_lt price former) price former

@@ -10,18 +10,27 @@ use Rattle.hourly.specs.declared.deliveries.Deliveries.{Deliveries}
 use Rattle.hourly.specs.declared.record.HourRecord.{HourRecord}
 use Rattle.hourly.specs.declared.plain.PlainDeliveries.{PlainDeliveries}
 use Rattle.hourly.specs.declared.plain.PlainRecord.{PlainRecord}
-use Rattle.hourly.specs.Bounds.{deliveries_ok, within}
+use Rattle.hourly.specs.Bounds.{deliveries_ok, further, within}
+
+-- the deliveries of one direction, without the proof that they are in bounds
+pub record DirectionFigures : Type 0 where
+  pub kwh : ℕ
+  pub total : ℤ
+  pub extreme : Option ℤ
+
+abbrev pub deliveries_figures : {D : _} {d : _} → Deliveries D d → DirectionFigures
+deliveries_figures r = record { kwh = r.kwh; total = r.total; extreme = r.extreme }
 
 -- the deliveries of an hour, upward and downward apart
 pub record HourFigures : Type 0 where
-  pub upward : Deliveries
-  pub downward : Deliveries
+  pub upward : DirectionFigures
+  pub downward : DirectionFigures
 
 abbrev pub record_figures : HourRecord → HourFigures
-record_figures r = record { upward = r.upward; downward = r.downward }
+record_figures r = record { upward = deliveries_figures r.upward; downward = deliveries_figures r.downward }
 
 -- no delivery
-abbrev pub nothing : Deliveries
+abbrev pub nothing : DirectionFigures
 nothing = record { kwh = 0; total = pos 0; extreme = None }
 
 -- a new book's record
@@ -33,7 +42,7 @@ abbrev pub in_bounds : HourFigures → Bool
 in_bounds h = deliveries_ok true h.upward.kwh h.upward.total h.upward.extreme && deliveries_ok false h.downward.kwh h.downward.total h.downward.extreme
 
 -- the deliveries that plain numbers give
-abbrev pub deliveries_given : PlainDeliveries → Deliveries
+abbrev pub deliveries_given : PlainDeliveries → DirectionFigures
 deliveries_given p = record { kwh = p.kwh; total = p.total; extreme = cond p.delivered (Some p.extreme) None }
 
 -- plain numbers of a direction are within the bounds, and where there was no delivery the price is 0
@@ -48,24 +57,23 @@ abbrev pub record_read : PlainRecord → HourFigures
 record_read p = cond (record_sound p) (record { upward = deliveries_given p.upward; downward = deliveries_given p.downward }) no_deliveries
 
 -- deliveries as plain numbers
-abbrev pub deliveries_plain : Deliveries → PlainDeliveries
+abbrev pub deliveries_plain : DirectionFigures → PlainDeliveries
 deliveries_plain d = record { kwh = d.kwh; total = d.total; delivered = is_some d.extreme; extreme = unwrap_or d.extreme (pos 0) }
 
 abbrev pub record_plain : HourFigures → PlainRecord
 record_plain h = record { upward = deliveries_plain h.upward; downward = deliveries_plain h.downward }
 
--- the extreme price after a delivery at a price: the highest upward (true), the lowest downward
+-- the extreme price after a delivery at a price
 abbrev pub extreme_of : Bool → Option ℤ → ℤ → ℤ
 extreme_of up None price = price
-extreme_of true (Some extreme) price = cond (int_lt extreme price) price extreme
-extreme_of false (Some extreme) price = cond (int_lt price extreme) price extreme
+extreme_of up (Some extreme) price = further up extreme price
 
 -- a direction after a delivery of a magnitude of kWh
-abbrev pub with_delivery : Bool → Deliveries → ℕ → ℤ → Deliveries
+abbrev pub with_delivery : Bool → DirectionFigures → ℕ → ℤ → DirectionFigures
 with_delivery up d kwh price = record { kwh = d.kwh + kwh; total = d.total +ℤ pos kwh *ℤ price; extreme = Some (extreme_of up d.extreme price) }
 
 -- a direction has room for a delivery: of 1 kWh at least, its total then 499,999 kWh at most, at a price within ±99,999
-abbrev pub takes : Deliveries → ℕ → ℤ → Bool
+abbrev pub takes : DirectionFigures → ℕ → ℤ → Bool
 takes d kwh price = nat_le 1 kwh && nat_le (d.kwh + kwh) 499999 && within 99999 price
 
 -- an hour has room for a delivery, which is downward if its kWh are negative

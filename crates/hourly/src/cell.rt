@@ -2,7 +2,7 @@ ghost use Rattle.std.specs.Prelude.{◌≡◌, ◌≤◌, true, unsigned_abs};
 ghost use Rattle.hourly.specs.Bounds.{within_opt};
 
 // A party's hour (docs/RULES.md, "Cells"): position in kWh, regulating kWh and tenths, reading in kWh, last amount in halers. None exists outside these bounds.
-#[derive(Clone, Copy)]
+#[derive(Clone, Copy, PartialEq, Eq, Debug)]
 pub struct Cell {
     pub position: i64,
     pub regulating: i64,

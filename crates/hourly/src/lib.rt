@@ -1,52 +1,69 @@
 // A party's hour and the record of an hour's regulating deliveries: types of which no value is out of bounds, and the plain numbers that they lie as on a page.
 #![tactic(auto)]
 
-ghost use Rattle.std.specs.Prelude.{◌≡◌, ◌+◌, ◌≤◌, true, false, ℤ, pos, ◌*ℤ◌, IfSome, if◌then◌else◌, Some, None, unsigned_abs};
+ghost use Rattle.std.specs.Prelude.{◌≡◌, ◌+◌, ◌≤◌, true, ℤ, pos, ◌*ℤ◌, if◌then◌else◌, Some, None, unsigned_abs};
 ghost use Rattle.std.specs.Option.{option_map};
 ghost use Rattle.hourly.specs.declared.deliveries.Deliveries.{Deliveries};
-ghost use Rattle.hourly.specs.Bounds.{within, deliveries_ok, not_beyond};
-ghost use Rattle.hourly.specs.Cells.{figures, sound, read, plain};
-ghost use Rattle.hourly.specs.Records.{deliverable, delivered, extreme_of, takes, with_delivery, record_figures, record_sound, record_read, record_plain, deliveries_given, deliveries_sound, deliveries_plain};
+ghost use Rattle.hourly.specs.Bounds.{within, deliveries_ok};
+ghost use Rattle.hourly.specs.Cells.{cleared, figures, sound, read, plain};
+ghost use Rattle.hourly.specs.Records.{deliverable, delivered, no_deliveries, nothing, takes, with_delivery, record_figures, record_sound, record_read, record_plain, deliveries_figures, deliveries_given, deliveries_sound, deliveries_plain, extreme_of};
 
 pub mod cell;
 pub mod deliveries;
+pub mod direction;
 pub mod plain;
 pub mod record;
 
 use cell::Cell;
 use deliveries::Deliveries;
+use direction::Direction;
 use plain::{PlainCell, PlainDeliveries, PlainRecord};
 use record::HourRecord;
+use std::marker::PhantomData;
 
 // Whether a number lies within ±limit.
-fn lies_within(limit: u64, z: i64) -> bool
+pub fn lies_within(limit: u64, z: i64) -> bool
     ensures { result ≡ within limit z }
 {
     z.unsigned_abs() <= limit
 }
 
-// Whether plain numbers have a reading in range, or none.
-fn reading_sound(p: &PlainCell) -> bool
-    ensures { result ≡ within (if p.now.metered then 499999 else 0) p.now.reading }
-{
-    if p.metered {
-        lies_within(499_999, p.reading)
-    } else {
-        lies_within(0, p.reading)
+impl PlainCell {
+    // Whether these are the plain numbers of some cell.
+    fn is_sound(&self) -> bool
+        ensures { result ≡ sound self.now }
+    {
+        if !lies_within(499_999, self.position)
+            || !lies_within(999_998, self.regulating)
+            || !lies_within(99_998_800_002, self.tenths)
+        {
+            return false;
+        }
+        let reading_limit = if self.metered { 499_999 } else { 0 };
+        lies_within(reading_limit, self.reading) && lies_within(630_000_000_000, self.last)
+    }
+
+    // The position of the cell that they stand for.
+    pub fn position(&self) -> i64
+        ensures value { result ≡ (read self.now).position }
+        ensures placed { unsigned_abs result ≤ 499999 }
+    {
+        Cell::from_plain(self).position
     }
 }
 
-// Whether plain numbers are those of some cell.
-fn cell_sound(p: &PlainCell) -> bool
-    ensures { result ≡ sound p.now }
-{
-    if !lies_within(499_999, p.position)
-        || !lies_within(999_998, p.regulating)
-        || !lies_within(99_998_800_002, p.tenths)
-    {
-        return false;
+impl Default for Cell {
+    ghost is_default = { λ c. figures c ≡ cleared };
+
+    fn default() -> Cell {
+        Cell {
+            position: 0,
+            regulating: 0,
+            tenths: 0,
+            reading: None,
+            last: 0,
+        }
     }
-    reading_sound(p) && lies_within(630_000_000_000, p.last)
 }
 
 impl Cell {
@@ -55,21 +72,14 @@ impl Cell {
         ensures value { figures result ≡ read p.now }
         ensures back { sound p.now ≡ true → plain (figures result) ≡ p.now }
     {
-        if !cell_sound(p) {
-            return Cell {
-                position: 0,
-                regulating: 0,
-                tenths: 0,
-                reading: None,
-                last: 0,
-            };
+        if !p.is_sound() {
+            return Cell::default();
         }
-        let reading = if p.metered { Some(p.reading) } else { None };
         Cell {
             position: p.position,
             regulating: p.regulating,
             tenths: p.tenths,
-            reading,
+            reading: if p.metered { Some(p.reading) } else { None },
             last: p.last,
         }
     }
@@ -79,95 +89,132 @@ impl Cell {
         ensures value { result ≡ plain (figures self.now) }
         ensures back { read result ≡ figures self.now }
     {
-        match self.reading {
-            Some(z) => PlainCell {
-                position: self.position,
-                regulating: self.regulating,
-                tenths: self.tenths,
-                metered: true,
-                reading: z,
-                last: self.last,
-            },
-            None => PlainCell {
-                position: self.position,
-                regulating: self.regulating,
-                tenths: self.tenths,
-                metered: false,
-                reading: 0,
-                last: self.last,
-            },
+        PlainCell {
+            position: self.position,
+            regulating: self.regulating,
+            tenths: self.tenths,
+            metered: self.reading.is_some(),
+            reading: self.reading.unwrap_or(0),
+            last: self.last,
         }
     }
 }
 
-// Whether a total of kWh × price is not beyond kWh × extreme price.
-fn average_sound(upward: bool, kwh: u64, total: i64, extreme: i64) -> bool
-    requires { (kwh ≤ 499999) × (unsigned_abs extreme ≤ 99999) }
-    ensures { result ≡ not_beyond upward total (pos kwh *ℤ extreme) }
+// The tenths of a magnitude of kWh at a price.
+fn delivery_tenths(kwh: u64, price: i64) -> i64
+    requires { (kwh ≤ 499999) × (unsigned_abs price ≤ 99999) }
+    ensures value { result ≡ pos kwh *ℤ price }
+    ensures bound { unsigned_abs result ≤ 49999400001 }
 {
-    match units::tenths_at(kwh as i64, extreme) {
-        Some(bound) => if upward {
-            total <= bound
-        } else {
-            bound <= total
-        },
-        None => unreachable(),
-    }
+    units::tenths_at(kwh as i64, price).unwrap()
 }
 
-// Whether deliveries with an extreme price are within the bounds.
-fn some_sound(upward: bool, kwh: u64, total: i64, extreme: i64) -> bool
-    ensures { result ≡ deliveries_ok upward kwh total (Some extreme) }
+// Whether deliveries with an extreme price are within the bounds of a direction.
+fn some_sound<D: Direction>(kwh: u64, total: i64, extreme: i64) -> bool
+    ensures { result ≡ deliveries_ok D.upward kwh total (Some extreme) }
 {
     if kwh < 1 || kwh > 499_999 || !lies_within(99_999, extreme) {
         return false;
     }
-    lies_within(99_999 * kwh, total) && average_sound(upward, kwh, total, extreme)
+    lies_within(99_999 * kwh, total) && D::admits(total, delivery_tenths(kwh, extreme))
 }
 
-// Whether the plain numbers of a direction are those of some deliveries.
-fn direction_sound(upward: bool, p: &PlainDeliveries) -> bool
-    ensures { result ≡ deliveries_sound upward p.now }
+// Whether plain numbers are those of some deliveries of a direction.
+fn deliveries_sound<D: Direction>(p: &PlainDeliveries) -> bool
+    ensures { result ≡ deliveries_sound D.upward p.now }
 {
     if p.delivered {
-        some_sound(upward, p.kwh, p.total, p.extreme)
+        some_sound::<D>(p.kwh, p.total, p.extreme)
     } else {
-        p.kwh == 0 && p.total.unsigned_abs() == 0 && p.extreme.unsigned_abs() == 0
+        *p == PlainDeliveries::default()
     }
 }
 
-// The deliveries that plain numbers give.
-fn given_deliveries(p: &PlainDeliveries) -> Deliveries
-    ensures { result ≡ deliveries_given p.now }
-{
-    let extreme = if p.delivered { Some(p.extreme) } else { None };
-    Deliveries {
-        kwh: p.kwh,
-        total: p.total,
-        extreme,
+impl<D: Direction> Default for Deliveries<D> {
+    ghost is_default = { λ d. deliveries_figures d ≡ nothing };
+
+    fn default() -> Deliveries<D> {
+        Deliveries {
+            kwh: 0,
+            total: 0,
+            extreme: None,
+            direction: PhantomData,
+        }
     }
 }
 
-// The plain numbers of deliveries that are within the bounds of their direction.
-fn plain_deliveries(upward: bool, d: &Deliveries) -> PlainDeliveries
-    requires { deliveries_ok upward d.now.kwh d.now.total d.now.extreme ≡ true }
-    ensures value { result ≡ deliveries_plain d.now }
-    ensures sound { deliveries_sound upward result ≡ true }
-    ensures back { deliveries_given result ≡ d.now }
-{
-    match d.extreme {
-        Some(price) => PlainDeliveries {
-            kwh: d.kwh,
-            total: d.total,
-            delivered: true,
-            extreme: price,
-        },
-        None => PlainDeliveries {
-            kwh: d.kwh,
-            total: d.total,
-            delivered: false,
-            extreme: 0,
-        },
+impl<D: Direction> Deliveries<D> {
+    // The deliveries that plain numbers give, or none where they are not sound.
+    pub fn from_plain(p: &PlainDeliveries) -> Option<Deliveries<D>>
+        ensures { option_map deliveries_figures result ≡ (if deliveries_sound D.upward p.now then Some (deliveries_given p.now) else None) }
+    {
+        if !deliveries_sound::<D>(p) {
+            return None;
+        }
+        Some(Deliveries {
+            kwh: p.kwh,
+            total: p.total,
+            extreme: if p.delivered { Some(p.extreme) } else { None },
+            direction: PhantomData,
+        })
+    }
+
+    // The plain numbers of deliveries.
+    pub fn to_plain(&self) -> PlainDeliveries
+        ensures value { result ≡ deliveries_plain (deliveries_figures self.now) }
+        ensures sound { deliveries_sound D.upward result ≡ true }
+        ensures back { deliveries_given result ≡ deliveries_figures self.now }
+    {
+        PlainDeliveries {
+            kwh: self.kwh,
+            total: self.total,
+            delivered: self.extreme.is_some(),
+            extreme: self.extreme.unwrap_or(0),
+        }
+    }
+
+    // The extreme price after a delivery.
+    fn extreme_after(&self, price: i64) -> i64
+        ensures { result ≡ extreme_of D.upward self.now.extreme price }
+    {
+        self.extreme
+            .map_or(price, |former| D::extreme(former, price))
+    }
+
+    // The deliveries after one more, which their total has room for.
+    fn with_delivery(&self, kwh: u64, price: i64) -> Deliveries<D>
+        requires some { 1 ≤ kwh }
+        requires room { self.now.kwh + kwh ≤ 499999 }
+        requires price { unsigned_abs price ≤ 99999 }
+        ensures { deliveries_figures result ≡ with_delivery D.upward (deliveries_figures self.now) kwh price }
+    {
+        Deliveries {
+            kwh: self.kwh + kwh,
+            total: self.total + delivery_tenths(kwh, price),
+            extreme: Some(self.extreme_after(price)),
+            direction: PhantomData,
+        }
+    }
+
+    // The deliveries after one more, or none where there is no room for that.
+    pub fn deliver(&self, kwh: u64, price: i64) -> Option<Deliveries<D>>
+        ensures { option_map deliveries_figures result ≡ (if takes (deliveries_figures self.now) kwh price then Some (with_delivery D.upward (deliveries_figures self.now) kwh price) else None) }
+    {
+        if kwh < 1 || kwh > 499_999 || self.kwh > 499_999 - kwh || !lies_within(99_999, price) {
+            return None;
+        }
+        Some(self.with_delivery(kwh, price))
+    }
+}
+
+impl Default for HourRecord {
+    ghost is_default = { λ r. record_figures r ≡ no_deliveries };
+
+    fn default() -> HourRecord {
+        HourRecord {
+            upward: Deliveries::default(),
+            downward: Deliveries::default(),
+        }
     }
 }
 
@@ -177,20 +224,11 @@ impl HourRecord {
         ensures value { record_figures result ≡ record_read p.now }
         ensures back { record_sound p.now ≡ true → record_plain (record_figures result) ≡ p.now }
     {
-        if !direction_sound(true, &p.upward) || !direction_sound(false, &p.downward) {
-            let none = Deliveries {
-                kwh: 0,
-                total: 0,
-                extreme: None,
-            };
-            return HourRecord {
-                upward: none,
-                downward: none,
-            };
-        }
-        HourRecord {
-            upward: given_deliveries(&p.upward),
-            downward: given_deliveries(&p.downward),
+        let upward = Deliveries::from_plain(&p.upward);
+        let downward = Deliveries::from_plain(&p.downward);
+        match (upward, downward) {
+            (Some(upward), Some(downward)) => HourRecord { upward, downward },
+            _ => HourRecord::default(),
         }
     }
 
@@ -200,87 +238,21 @@ impl HourRecord {
         ensures back { record_read result ≡ record_figures self.now }
     {
         PlainRecord {
-            upward: plain_deliveries(true, &self.upward),
-            downward: plain_deliveries(false, &self.downward),
+            upward: self.upward.to_plain(),
+            downward: self.downward.to_plain(),
         }
     }
-}
 
-// The extreme price of a direction after a delivery.
-fn extreme_after(upward: bool, extreme: Option<i64>, price: i64) -> i64
-    ensures { result ≡ extreme_of upward extreme price }
-{
-    match extreme {
-        None => price,
-        Some(former) => {
-            if upward {
-                if former < price { price } else { former }
-            } else {
-                if price < former { price } else { former }
-            }
-        }
-    }
-}
-
-// The tenths of a delivery.
-fn delivery_tenths(kwh: u64, price: i64) -> i64
-    requires { (kwh ≤ 499999) × (unsigned_abs price ≤ 99999) }
-    ensures value { result ≡ pos kwh *ℤ price }
-    ensures bound { unsigned_abs result ≤ 49999400001 }
-{
-    match units::tenths_at(kwh as i64, price) {
-        Some(tenths) => tenths,
-        None => unreachable(),
-    }
-}
-
-// The deliveries of a direction after one more, which its total has room for.
-fn with_delivery(upward: bool, d: &Deliveries, kwh: u64, price: i64) -> Deliveries
-    requires sound { deliveries_ok upward d.now.kwh d.now.total d.now.extreme ≡ true }
-    requires some { 1 ≤ kwh }
-    requires room { d.now.kwh + kwh ≤ 499999 }
-    requires price { unsigned_abs price ≤ 99999 }
-    ensures value { result ≡ with_delivery upward d.now kwh price }
-    ensures sound { deliveries_ok upward result.kwh result.total result.extreme ≡ true }
-{
-    let extreme = extreme_after(upward, d.extreme, price);
-    let tenths = delivery_tenths(kwh, price);
-    Deliveries {
-        kwh: d.kwh + kwh,
-        total: d.total + tenths,
-        extreme: Some(extreme),
-    }
-}
-
-// The deliveries of a direction after one more, or none where it has no room for that.
-fn direction_after(upward: bool, d: &Deliveries, kwh: u64, price: i64) -> Option<Deliveries>
-    requires { deliveries_ok upward d.now.kwh d.now.total d.now.extreme ≡ true }
-    ensures value { result ≡ (if takes d.now kwh price then Some (with_delivery upward d.now kwh price) else None) }
-    ensures sound { IfSome result (λ (e : Deliveries). deliveries_ok upward e.kwh e.total e.extreme ≡ true) }
-{
-    if kwh < 1 || kwh > 499_999 || d.kwh > 499_999 - kwh || !lies_within(99_999, price) {
-        return None;
-    }
-    Some(with_delivery(upward, d, kwh, price))
-}
-
-impl HourRecord {
     // The record after one more delivery, which is downward if its kWh are negative; none where it has no room for that.
     pub fn deliver(&self, kwh: i64, price: i64) -> Option<HourRecord>
         ensures { option_map record_figures result ≡ (if deliverable (record_figures self.now) kwh price then Some (delivered (record_figures self.now) kwh price) else None) }
     {
         if kwh < 0 {
-            let downward = direction_after(false, &self.downward, kwh.unsigned_abs(), price)?;
-            Some(HourRecord {
-                upward: self.upward,
-                downward,
-            })
+            let downward = self.downward.deliver(kwh.unsigned_abs(), price)?;
+            Some(HourRecord { downward, ..*self })
         } else {
-            let upward = direction_after(true, &self.upward, kwh.unsigned_abs(), price)?;
-            Some(HourRecord {
-                upward,
-                downward: self.downward,
-            })
+            let upward = self.upward.deliver(kwh.unsigned_abs(), price)?;
+            Some(HourRecord { upward, ..*self })
         }
     }
 }

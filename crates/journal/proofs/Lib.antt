@@ -1,3 +1,3 @@
-pub mod Keeping
-pub mod Cutting
 pub mod Running
+pub mod Streaming
+pub mod Seen

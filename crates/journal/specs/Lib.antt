@@ -1,3 +1,6 @@
 pub mod Told
+pub mod Calling
 pub mod Answered
+pub mod Cutting
 pub mod Lines
+pub mod Streams

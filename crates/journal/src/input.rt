@@ -1,60 +1,31 @@
 // The input of a journal, taken byte by byte and answered line by line.
-ghost use Rattle.std.specs.Prelude.{◌≡◌, ℕ, ◌+◌, ◌<◌, ◌≤◌, List, [], ◌∷◌, ◌++◌, length, take, ℤ, ◌≢◌};
-ghost use Rattle.journal.specs.Lines.{kept, Holds, Outcome, Whole, Ran, Runs, Filled, Takes, Finishes};
+ghost use Rattle.std.specs.Prelude.{◌≡◌, ℕ, ◌+◌, ◌≤◌, List, [], ◌∷◌, ◌++◌, length, take, ◌≢◌};
+ghost use Rattle.journal.specs.Lines.{Holds, Outcome, Whole, Ran, Runs, Filled, Takes, Finishes};
 
-use crate::call::answer_line;
+use crate::call::Answering;
 use answers::ANSWER_BYTES;
-
-// The most bytes that are kept of a line: one more than a line may have.
-const KEPT: usize = 201;
+use arrayvec::ArrayVec;
 
 // No line of this number or a higher one is answered, and they are not told apart.
 const PAST_LAST: u32 = 1_000_000_000;
 
-// A line so far: its first bytes.
+// An input so far: the journal that it goes to, the line that is going on, and its number. Of the line its first 201 bytes are kept, one
+// more than a line may have; past them it is only known that it is longer.
 #[derive(Drop)]
-struct Line {
-    bytes: [u8; 201],
-    len: usize,
-}
-
-impl Line {
-    // One byte more; past 201 it is only known that the line is longer.
-    fn push(&mut self, byte: u8)
-        ensures { kept self.new ≡ take 201 (kept self.old ++ byte ∷ []) }
-    {
-        let at = self.len;
-        if at < KEPT {
-            self.bytes[at] = byte;
-            self.len = at + 1;
-        }
-    }
-
-    // The bytes that are kept.
-    fn text(&self) -> &[u8]
-        ensures { result.now ≡ kept self.now }
-    {
-        &self.bytes[0..self.len.min(KEPT)]
-    }
-}
-
-// An input so far: the line that is going on, and its number.
-#[derive(Drop)]
-pub struct Input {
-    line: Line,
+pub struct Input<J> {
+    journal: J,
+    line: ArrayVec<u8, 201>,
     number: u32,
 }
 
-impl Input {
+impl<J: Answering> Input<J> {
     // Before the first byte: line 1 begins.
-    pub fn new() -> Input
-        ensures { Ran result [] [] }
+    pub fn new(journal: J) -> Input<J>
+        ensures { Ran J.answered journal result [] [] }
     {
         Input {
-            line: Line {
-                bytes: [0; 201],
-                len: 0,
-            },
+            journal,
+            line: ArrayVec::new(),
             number: 1,
         }
     }
@@ -62,7 +33,7 @@ impl Input {
     // Takes the next byte of the input. What is answered if it ends a line is then at the buffer's start, and its length is returned;
     // None, with nothing taken, where the buffer is under 4,096 bytes.
     pub fn take_byte(&mut self, buffer: &mut [u8], byte: u8) -> Option<usize>
-        ensures { Takes self.old buffer.old byte result self.new buffer.new }
+        ensures { Takes J.answered self.old buffer.old byte result self.new buffer.new }
     {
         if buffer.len() < ANSWER_BYTES {
             return None;
@@ -75,35 +46,39 @@ impl Input {
         }
     }
 
-    // The input has ended: what answers the bytes after the last end of a line is at the buffer's start, and its length is returned;
-    // None where the buffer is under 4,096 bytes.
-    pub fn finish(self, buffer: &mut [u8]) -> Option<usize>
-        ensures { Finishes self buffer.old result buffer.new }
+    // The input has ended: what answers the bytes after the last end of a line is at the buffer's start, and its length is returned, with the
+    // journal as it is then; None, with the journal as it was, where the buffer is under 4,096 bytes.
+    pub fn finish(self, buffer: &mut [u8]) -> (Option<usize>, J)
+        ensures { Finishes J.answered self buffer.old result.0 result.1 buffer.new }
     {
         if buffer.len() < ANSWER_BYTES {
-            return None;
+            return (None, self.journal);
         }
-        Some(self.answer(buffer))
+        let mut input = self;
+        let len = input.answer(buffer);
+        (Some(len), input.journal)
     }
 
-    // The answer to the line as it stands, and its length.
-    fn answer(&self, out: &mut [u8]) -> usize
+    // Answers the line as it stands, and gives the answer's length.
+    fn answer(&mut self, out: &mut [u8]) -> usize
         requires { 4096 ≤ length out.old }
-        ensures outcome { (lines : List (List ℕ)) (rest : List ℕ) → Holds self.now lines rest → Outcome (length lines + 1) rest (take result out.new) }
-        ensures whole { (input output : List ℕ) → Ran self.now input output → Whole input (output ++ take result out.new) }
+        ensures outcome { (lines : List (List ℕ)) (rest : List ℕ) → Holds self.old lines rest → Outcome J.answered self.old.journal (length lines + 1) rest (take result out.new) self.new.journal }
+        ensures whole { (j : J) (input output : List ℕ) → Ran J.answered j self.old input output → Whole J.answered j input (output ++ take result out.new) self.new.journal }
+        ensures line { self.new.line ≡ self.old.line }
+        ensures number { self.new.number ≡ self.old.number }
         ensures filled { Filled out.old result out.new }
     {
-        match answer_line(out, i64::from(self.number), self.line.text()) {
-            Some(len) => len,
-            None => 0,
-        }
+        self.journal
+            .answer_line(out, i64::from(self.number), self.line.as_slice())
+            .unwrap_or(0)
     }
 
     // The next line begins.
     fn begin_line(&mut self)
-        ensures { (lines : List (List ℕ)) (rest : List ℕ) → Holds self.old lines rest → Holds self.new (lines ++ rest ∷ []) [] }
+        ensures holds { (lines : List (List ℕ)) (rest : List ℕ) → Holds self.old lines rest → Holds self.new (lines ++ rest ∷ []) [] }
+        ensures journal { self.new.journal ≡ self.old.journal }
     {
-        self.line.len = 0;
+        self.line.clear();
         if self.number < PAST_LAST {
             self.number += 1;
         }
@@ -112,7 +87,7 @@ impl Input {
     // Byte 10 came: the line is answered, and the next begins.
     fn end_line(&mut self, out: &mut [u8]) -> usize
         requires { 4096 ≤ length out.old }
-        ensures runs { Runs self.old (10 ∷ []) (take result out.new) self.new }
+        ensures runs { Runs J.answered self.old (10 ∷ []) (take result out.new) self.new }
         ensures filled { Filled out.old result out.new }
     {
         let len = self.answer(out);
@@ -123,8 +98,10 @@ impl Input {
     // Another byte came: it is one more of the line.
     fn go_on(&mut self, byte: u8)
         requires { byte ≢ 10 }
-        ensures { Runs self.old (byte ∷ []) [] self.new }
+        ensures { Runs J.answered self.old (byte ∷ []) [] self.new }
     {
-        self.line.push(byte);
+        if !self.line.is_full() {
+            self.line.push(byte);
+        }
     }
 }

@@ -4,9 +4,13 @@
 mod call;
 mod input;
 mod refusal;
+mod stream;
 #[cfg(test)]
 mod tests;
+mod unopened;
 
-pub use call::answer_line;
+pub use call::Answering;
 pub use input::Input;
-pub use refusal::Refusal;
+pub use refusal::{Refusal, refused};
+pub use stream::answer_input;
+pub use unopened::{Unopened, answer_line};

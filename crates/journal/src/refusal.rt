@@ -1,8 +1,9 @@
 // Why a line is refused, the faults of the layers below carried whole (docs/RULES.md, "Refusals").
 ghost use Rattle.std.specs.Prelude.{◌≡◌};
-ghost use Rattle.journal.specs.Told.{told};
+ghost use Rattle.journal.specs.Told.{told, refused_by};
 ghost use Rattle.journal.specs.declared.refusal.Refusal.TheVariants.{Words};
 
+use answers::Answer;
 use words::{Told, WordFault};
 
 #[derive(Clone, Copy)]
@@ -34,5 +35,16 @@ impl Refusal {
                 place: 0,
             },
         }
+    }
+}
+
+// The answer that tells a refusal.
+pub fn refused(told: Told) -> Answer
+    ensures { result ≡ refused_by told }
+{
+    Answer::Refused {
+        layer: told.layer,
+        number: told.number,
+        place: told.place,
     }
 }

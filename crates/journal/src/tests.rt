@@ -1,5 +1,8 @@
 // The line call at the edges of what it answers, and an input from byte to byte.
-use super::{Input, answer_line};
+use super::{Answering, Input, Unopened, answer_input, answer_line};
+use std::io;
+use std::io::{ErrorKind, Read};
+use std::test::Fail;
 
 fn wrote(out: &[u8], len: Option<usize>, text: &[u8]) -> bool {
     match len {
@@ -9,7 +12,7 @@ fn wrote(out: &[u8], len: Option<usize>, text: &[u8]) -> bool {
 }
 
 // How many bytes were answered, as these came in.
-fn fed(input: &mut Input, out: &mut [u8], bytes: &[u8]) -> usize {
+fn fed<J: Answering>(input: &mut Input<J>, out: &mut [u8], bytes: &[u8]) -> usize {
     let mut all: usize = 0;
     for b in bytes {
         all = all.saturating_add(input.take_byte(out, *b).unwrap_or(1));
@@ -48,7 +51,7 @@ fn lines(rt: HostRuntime) {
 #[test]
 fn bytes(rt: HostRuntime) {
     let mut out = [7u8; 4096];
-    let mut input = Input::new();
+    let mut input = Input::new(Unopened);
     let mut short = [7u8; 4095];
     assert_eq!(rt; input.take_byte(&mut short, b'('), None);
     assert_eq!(rt; input.take_byte(&mut out, b'\n'), Some(0));
@@ -62,6 +65,41 @@ fn bytes(rt: HostRuntime) {
         )
     );
     assert_eq!(rt; input.take_byte(&mut out, b'('), Some(0));
-    let n = input.finish(&mut out);
+    let (n, _) = input.finish(&mut out);
     assert!(rt; wrote(&out, n, b"(no (line 3) (layer 1) (number 22) (place 2))\n"));
+}
+
+// A source that gives two bytes at a time, and fails after the last.
+#[derive(Drop)]
+struct Broken<'a> {
+    left: &'a [u8],
+}
+
+impl Read for Broken<'_> {
+    fn read(&mut self, buf: &mut [u8]) -> io::Result<usize> {
+        let [first, second, left @ ..] = self.left else {
+            return Err(io::Error::from(ErrorKind::ConnectionReset));
+        };
+        let [a, b, ..] = buf else {
+            return Ok(0);
+        };
+        *a = *first;
+        *b = *second;
+        self.left = left;
+        Ok(2)
+    }
+}
+
+#[test]
+fn streams(rt: HostRuntime) -> Result<(), Fail> {
+    let mut out = Vec::new(rt.alloc());
+    answer_input(Unopened, &mut &b"\n()\n("[..], &mut out)?;
+    let all =
+        b"(no (line 2) (layer 1) (number 22) (place 2))\n(no (line 3) (layer 1) (number 22) (place 2))\n";
+    assert!(rt; out.as_slice() == all.as_slice());
+    let mut out = Vec::new(rt.alloc());
+    let mut source = Broken { left: b"()\n(()" };
+    assert!(rt; answer_input(Unopened, &mut source, &mut out).is_err());
+    assert!(rt; out.as_slice() == b"(no (line 1) (layer 1) (number 22) (place 2))\n".as_slice());
+    Ok(())
 }

@@ -1,5 +1,2 @@
 mod Fitting
 mod Showing
-mod Calling
-pub mod Cutting
-pub mod Running

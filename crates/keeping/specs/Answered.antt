@@ -6,13 +6,12 @@
 --   Answered v line a w            it answered a line that is not empty by a, and became w
 --   LineText v number line text w  it answered the line of this number by these bytes, and became w
 --   LineCall v d number line r w e the line call altered the journal v to w and the buffer d to e, and returned r
-use Rattle.std.specs.Prelude.{◌≡◌, ℕ, ◌<◌, ◌≤◌, List, [], length, ℤ, Some, None, Ok, Err, Option, Result}
+use Rattle.std.specs.Prelude.{◌≡◌, ℕ, List, ℤ, Ok, Err, Option, Result}
 use Rattle.answers.specs.declared.Answer.{Answer}
-use Rattle.answers.specs.Texts.{answer_text}
-use Rattle.answers.specs.Writing.{laid, Answerable}
 use Rattle.words.specs.declared.faults.WordFault.{WordFault}
 use Rattle.words.specs.declared.form.Form.{Form}
 use Rattle.words.specs.Layer.{Reads}
+use Rattle.journal.specs.Calling as calling
 use Rattle.keeping.specs.declared.refusal.Refusal.{Refusal}
 use Rattle.keeping.specs.declared.refusal.Refusal.TheVariants.{Words}
 use Rattle.keeping.specs.Told.{refused_as}
@@ -40,11 +39,8 @@ answer_of (Err f) = refused_as f
 abbrev pub Answered : View → List ℕ → Answer → View → Type 0
 Answered v line a w = (r : Result Answer Refusal) × Entered v line r w × (a ≡ answer_of r)
 
--- no byte for an empty line, which changes nothing; else an answer's text
 abbrev pub LineText : View → ℤ → List ℕ → List ℕ → View → Type 0
-LineText v number line text w = (length line ≡ 0 → (text ≡ []) × (w ≡ v)) × (0 < length line → (a : Answer) × Answered v line a w × (text ≡ answer_text number a))
+LineText = calling.LineText Answered
 
--- None, with the journal and the buffer unaltered, exactly where the line is not answerable; else the answer's bytes at the buffer's start, no other byte altered, and their number
 abbrev pub LineCall : View → List ℕ → ℤ → List ℕ → Option ℕ → View → List ℕ → Type 0
-LineCall v d number line None w e = (Answerable (length d) number → ⊥) × (w ≡ v) × (e ≡ d)
-LineCall v d number line (Some n) w e = Answerable (length d) number × ((text : List ℕ) × LineText v number line text w × (n ≡ length text) × (n ≤ 4096) × (e ≡ laid d 0 text))
+LineCall = calling.LineCall Answered

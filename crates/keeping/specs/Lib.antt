@@ -3,4 +3,4 @@ pub mod View
 pub mod Starting
 pub mod Entered
 pub mod Answered
-pub mod Lines
+pub mod Cutting

@@ -4,8 +4,8 @@
 --   refused_as f  the answer that says so
 use Rattle.std.specs.Prelude.{pos}
 use Rattle.answers.specs.declared.Answer.{Answer}
-use Rattle.answers.specs.declared.Answer.TheVariants.{Refused}
 use Rattle.entries.specs.Refusals as entries
+use Rattle.journal.specs.Told.{refused_by}
 use Rattle.words.specs.Told as words
 use Rattle.words.specs.declared.faults.Told.{Told}
 use Rattle.keeping.specs.declared.refusal.Refusal.{Refusal}
@@ -18,4 +18,4 @@ told SecondBook = record { layer = 3; number = 13; place = pos 0 }
 told (Book r) = record { layer = 3; number = (entries.told r).number; place = (entries.told r).place }
 
 abbrev pub refused_as : Refusal → Answer
-refused_as f = Refused (told f).layer (told f).number (told f).place
+refused_as f = refused_by (told f)

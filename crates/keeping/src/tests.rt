@@ -3,7 +3,6 @@ use super::{Input, Journal};
 use book::pages::Pages;
 use hourly::plain::{PlainCell, PlainDeliveries, PlainRecord};
 use refusals::Tells;
-use std::test::Fail;
 
 // Numbers that a book must clear.
 const CELL: PlainCell = PlainCell {
@@ -53,6 +52,11 @@ fn fed(input: &mut Input, out: &mut [u8], bytes: &[u8]) -> usize {
     all
 }
 
+// A journal for a book of 2 parties and 1 day.
+fn started<'a>(cells: &'a mut [PlainCell], records: &'a mut [PlainRecord]) -> Option<Journal<'a>> {
+    Journal::start(Pages { cells, records }, 2, 1).ok()
+}
+
 // The number of the refusal to start a journal, or 0.
 fn refused(cells: &mut [PlainCell], records: &mut [PlainRecord], parties: i64, days: i64) -> u8 {
     match Journal::start(Pages { cells, records }, parties, days) {
@@ -74,17 +78,10 @@ fn starts(rt: HostRuntime) {
 }
 
 #[test]
-fn lines(rt: HostRuntime) -> Result<(), Fail> {
+fn lines(rt: HostRuntime) {
     let mut cells = [CELL; 48];
     let mut records = [RECORD; 24];
-    let pages = Pages {
-        cells: &mut cells,
-        records: &mut records,
-    };
-    let Ok(mut journal) = Journal::start(pages, 2, 1) else {
-        assert!(rt; false);
-        return Ok(());
-    };
+    let mut journal = started(&mut cells, &mut records).expect(&rt, "pages of a book");
     let mut out = [7u8; 4096];
     assert_eq!(rt; journal.answer_line(&mut out, 1, b""), Some(0));
     assert_eq!(rt; journal.answer_line(&mut out, 0, b""), None);
@@ -115,21 +112,13 @@ fn lines(rt: HostRuntime) -> Result<(), Fail> {
             b"(no (line 3) (layer 1) (number 23) (place 201))\n",
         )
     );
-    Ok(())
 }
 
 #[test]
-fn books(rt: HostRuntime) -> Result<(), Fail> {
+fn books(rt: HostRuntime) {
     let mut cells = [CELL; 48];
     let mut records = [RECORD; 24];
-    let pages = Pages {
-        cells: &mut cells,
-        records: &mut records,
-    };
-    let Ok(mut journal) = Journal::start(pages, 2, 1) else {
-        assert!(rt; false);
-        return Ok(());
-    };
+    let mut journal = started(&mut cells, &mut records).expect(&rt, "pages of a book");
     assert!(rt;
         answers(
             &mut journal,
@@ -171,21 +160,13 @@ fn books(rt: HostRuntime) -> Result<(), Fail> {
         )
     );
     assert!(rt; answers(&mut journal, 6, b"(close (day 1))", b"(ok (line 6))\n"));
-    Ok(())
 }
 
 #[test]
-fn bytes(rt: HostRuntime) -> Result<(), Fail> {
+fn bytes(rt: HostRuntime) {
     let mut cells = [CELL; 48];
     let mut records = [RECORD; 24];
-    let pages = Pages {
-        cells: &mut cells,
-        records: &mut records,
-    };
-    let Ok(journal) = Journal::start(pages, 2, 1) else {
-        assert!(rt; false);
-        return Ok(());
-    };
+    let journal = started(&mut cells, &mut records).expect(&rt, "pages of a book");
     let mut out = [7u8; 4096];
     let mut input = Input::new(journal);
     let mut short = [7u8; 4095];
@@ -203,22 +184,14 @@ fn bytes(rt: HostRuntime) -> Result<(), Fail> {
     assert_eq!(rt; input.take_byte(&mut out, b'('), Some(0));
     let (n, _) = input.finish(&mut out);
     assert!(rt; wrote(&out, n, b"(no (line 3) (layer 1) (number 22) (place 2))\n"));
-    Ok(())
 }
 
 // The example journal of the rules, up to its evaluation.
 #[test]
-fn example(rt: HostRuntime) -> Result<(), Fail> {
+fn example(rt: HostRuntime) {
     let mut cells = [CELL; 48];
     let mut records = [RECORD; 24];
-    let pages = Pages {
-        cells: &mut cells,
-        records: &mut records,
-    };
-    let Ok(mut journal) = Journal::start(pages, 2, 1) else {
-        assert!(rt; false);
-        return Ok(());
-    };
+    let mut journal = started(&mut cells, &mut records).expect(&rt, "pages of a book");
     assert!(rt;
         answers(
             &mut journal,
@@ -260,5 +233,4 @@ fn example(rt: HostRuntime) -> Result<(), Fail> {
             b"(show (line 6) (party 2) (balance 0) (need 0))\n",
         )
     );
-    Ok(())
 }

@@ -1,3 +1,0 @@
-pub mod Exposures
-pub mod Totals
-pub mod Sizes

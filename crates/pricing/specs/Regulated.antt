@@ -5,7 +5,7 @@ use Rattle.std.proofs.lemmas.Bool.{and_parts, cond_both, leb-true}
 use Rattle.units.specs.Rounding.{nearest}
 use Rattle.units.proofs.Nearby.{nearest_small}
 use Rattle.hourly.specs.Bounds.{deliveries_ok}
-use Rattle.hourly.specs.declared.deliveries.Deliveries.{Deliveries}
+use Rattle.hourly.specs.Records.{DirectionFigures}
 use Rattle.pricing.specs.Prices.{Bounded, PricedWithin}
 use Rattle.pricing.specs.Rules.{by_deliveries, regulating}
 
@@ -24,6 +24,6 @@ by_deliveries_bounded default si up kwh total (Some main) hd ok =
 pub regulating_bounded : (default : ℤ) → unsigned_abs default ≤ 99999 → PricedWithin (regulating default)
 regulating_bounded default hd si h ok =
     let s = and_parts _ _ ok in
-    cond_both (int_le si (pos 0)) h.upward h.downward (λ (d : Deliveries). Bounded (by_deliveries default si d.kwh d.total d.extreme))
+    cond_both (int_le si (pos 0)) h.upward h.downward (λ (d : DirectionFigures). Bounded (by_deliveries default si d.kwh d.total d.extreme))
     (λ _. by_deliveries_bounded default si true h.upward.kwh h.upward.total h.upward.extreme hd s.0)
     (λ _. by_deliveries_bounded default si false h.downward.kwh h.downward.total h.downward.extreme hd s.1)

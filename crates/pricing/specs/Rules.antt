@@ -1,8 +1,7 @@
 -- The two pricing rules in use (docs/RULES.md, "Pricing rules"). Assumes nothing.
 use Rattle.std.specs.Prelude.{ℕ, cond, ℤ, pos, neg_ℤ, Some, None, Option, int_le, int_lt, nat_le, unsigned_abs}
 use Rattle.units.specs.Rounding.{nearest}
-use Rattle.hourly.specs.declared.deliveries.Deliveries.{Deliveries}
-use Rattle.hourly.specs.Records.{HourFigures}
+use Rattle.hourly.specs.Records.{DirectionFigures, HourFigures}
 use Rattle.pricing.specs.declared.prices.Prices.{Prices}
 
 -- one price both ways
@@ -23,7 +22,7 @@ by_deliveries default si kwh total None = both default
 by_deliveries default si kwh total (Some main) = cond (int_lt si (pos 0)) (record { long = nearest total kwh; short = main }) (cond (int_lt (pos 0) si) (record { long = main; short = nearest total kwh }) (both main))
 
 -- the direction that the system imbalance asks for: upward unless the system has too much
-abbrev pub asked : ℤ → HourFigures → Deliveries
+abbrev pub asked : ℤ → HourFigures → DirectionFigures
 asked si h = cond (int_le si (pos 0)) h.upward h.downward
 
 -- the regulating rule, with its default price

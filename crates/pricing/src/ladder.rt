@@ -30,10 +30,6 @@ impl Pricing for Ladder {
 
     fn prices(&self, system: i64, hour: &HourRecord) -> Result<Prices, PricingRefusal> {
         let kwh = admit(system)?;
-        let price = rung_price(kwh, system <= 0);
-        Ok(Prices {
-            long: price,
-            short: price,
-        })
+        Ok(Prices::both(rung_price(kwh, system <= 0)))
     }
 }

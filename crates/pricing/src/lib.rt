@@ -1,11 +1,10 @@
 // Pricing rules (docs/RULES.md, "Pricing rules"): a rule stands for one map from system imbalance and hour record to long and short price.
 #![tactic(auto)]
 
-ghost use Rattle.std.specs.Prelude.{◌≡◌, if◌then◌else◌, Some, None, Ok, Err, nat_le, unsigned_abs};
-ghost use Rattle.std.specs.Option.{option_map};
+ghost use Rattle.std.specs.Prelude.{◌≡◌, if◌then◌else◌, Ok, Err, nat_le, unsigned_abs};
 ghost use Rattle.hourly.specs.Records.{record_figures};
 ghost use Rattle.pricing.specs.Prices.{PriceMap, PricedWithin, answered, told};
-ghost use Rattle.pricing.specs.declared.price.Price.{Price};
+ghost use Rattle.pricing.specs.Rules.{both};
 
 pub mod ladder;
 pub mod price;
@@ -13,7 +12,6 @@ pub mod prices;
 pub mod regulating;
 
 use hourly::record::HourRecord;
-use price::Price;
 use prices::{Prices, PricingRefusal};
 use refusals::{Tells, Told};
 
@@ -40,21 +38,15 @@ impl Tells for PricingRefusal {
     }
 }
 
-impl Price {
-    // The price, or none beyond ±99,999.
-    pub fn new(value: i64) -> Option<Price>
-        ensures { option_map (λ (p : Price). p.value) result ≡ (if nat_le (unsigned_abs value) 99999 then Some value else None) }
+impl Prices {
+    // One price for both sides.
+    pub fn both(price: i64) -> Prices
+        ensures { result ≡ both price }
     {
-        if value.unsigned_abs() > 99_999 {
-            return None;
+        Prices {
+            long: price,
+            short: price,
         }
-        Some(Price { value })
-    }
-
-    pub fn value(&self) -> i64
-        ensures { result ≡ self.now.value }
-    {
-        self.value
     }
 }
 

@@ -1,8 +1,4 @@
-ghost use Rattle.std.specs.Prelude.{◌≤◌, unsigned_abs};
+use units::limited::Limited;
 
 // A price in CZK/MWh. None exists beyond ±99,999.
-#[derive(Clone, Copy)]
-pub struct Price {
-    pub(crate) value: i64,
-    ghost ranged: { unsigned_abs value ≤ 99999 },
-}
+pub type Price = Limited<99_999>;

@@ -4,7 +4,7 @@
 --   sharing_map c      the map that a chosen sharing rule stands for
 --   rules_checks p d s the checks of the three numbers, in order
 --   rules_chosen p d s the rules that they pick, where the checks pass
-use Rattle.std.specs.Prelude.{ℕ, cond, List, [], ◌∷◌, ℤ, pos, Some, None, Ok, Err, Option, Result, nat_le, unsigned_abs}
+use Rattle.std.specs.Prelude.{ℕ, cond, List, [], ◌∷◌, ◌++◌, ℤ, pos, Some, None, Ok, Err, Option, Result, nat_le, unsigned_abs}
 use Rattle.pricing.specs.Prices.{PriceMap}
 use Rattle.pricing.specs.Rules.{ladder, regulating}
 use Rattle.sharing.specs.Rules.{largest_remainder, running}
@@ -27,18 +27,27 @@ abbrev pub sharing_map : ChosenSharing → ℤ → List ℕ → List ℤ
 sharing_map Running = running
 sharing_map LargestRemainder = largest_remainder
 
--- 4 for the pricing rule's number, the default, the sharing rule's number
+-- 4 for the pricing rule's number and the default, then for the sharing rule's number
+abbrev pub pricing_checks : ℤ → ℤ → List Check
+pricing_checks pricing default = value_check (between 1 2) pricing ∷ value_check (within 99999) default ∷ []
+
+abbrev pub sharing_checks : ℤ → List Check
+sharing_checks sharing = value_check (between 1 2) sharing ∷ []
+
 abbrev pub rules_checks : ℤ → ℤ → ℤ → List Check
-rules_checks pricing default sharing = value_check (between 1 2) pricing ∷ value_check (within 99999) default ∷ value_check (between 1 2) sharing ∷ []
+rules_checks pricing default sharing = pricing_checks pricing default ++ sharing_checks sharing
 
 -- rule 1 or rule 2 of each kind
-abbrev pub rules_chosen : ℤ → ℤ → ℤ → Rules
-rules_chosen pricing default sharing = record {
-  pricing = cond (same pricing (pos 1)) (Regulating default) Ladder;
-  sharing = cond (same sharing (pos 1)) Running LargestRemainder;
-}
+abbrev pub pricing_chosen : ℤ → ℤ → ChosenPricing
+pricing_chosen pricing default = cond (same pricing (pos 1)) (Regulating default) Ladder
 
--- the first check that fails, or the rules
-abbrev pub chosen : Option Refusal → Rules → Result Rules Refusal
-chosen (Some refusal) rules = Err refusal
-chosen None rules = Ok rules
+abbrev pub sharing_chosen : ℤ → ChosenSharing
+sharing_chosen sharing = cond (same sharing (pos 1)) Running LargestRemainder
+
+abbrev pub rules_chosen : ℤ → ℤ → ℤ → Rules
+rules_chosen pricing default sharing = record { pricing = pricing_chosen pricing default; sharing = sharing_chosen sharing }
+
+-- the first check that fails, or what is chosen
+abbrev pub chosen : {A : Type 0} → Option Refusal → A → Result A Refusal
+chosen (Some refusal) a = Err refusal
+chosen None a = Ok a

@@ -1,4 +1,5 @@
-// The rules in use, as one type each: whoever picks a rule by its number has a value of these. They hold no proof, so that a book that holds lent pages can hold them too.
+// The rules in use, as one type each: whoever picks a rule by its number has a value of these.
+// The default is a plain number, and no `Price`: a type that holds lent pages, as a book does, gets no proof beside a struct with a ghost field.
 
 #[derive(Clone, Copy)]
 pub enum ChosenPricing {

@@ -1,11 +1,11 @@
 // The rules in use, picked by their numbers (docs/RULES.md, "book and show").
 #![tactic(auto)]
 
-ghost use Rattle.std.specs.Prelude.{◌≡◌, ◌≤◌, ℤ, pos, if◌then◌else◌, nat_le, unsigned_abs};
-ghost use Rattle.entries.specs.Fields.{first_of};
+ghost use Rattle.std.specs.Prelude.{◌≡◌, [], ◌∷◌, ◌≤◌, ℤ, pos, if◌then◌else◌, nat_le, unsigned_abs};
+ghost use Rattle.entries.specs.Fields.{first_of, value_check, within};
 ghost use Rattle.hourly.specs.Records.{record_figures};
 ghost use Rattle.pricing.specs.Prices.{answered};
-ghost use Rattle.rules.specs.Choice.{chosen, pricing_map, rules_checks, rules_chosen, sharing_map};
+ghost use Rattle.rules.specs.Choice.{chosen, pricing_checks, pricing_chosen, pricing_map, rules_checks, rules_chosen, sharing_checks, sharing_chosen, sharing_map};
 ghost use Rattle.std.proofs.Common.{rules, arith};
 ghost use Rattle.std.proofs.lemmas.Bool.{cond_both, leb-true};
 ghost use Rattle.pricing.specs.Regulated.{regulating_bounded};
@@ -33,12 +33,9 @@ use sharing::running::Running;
 fn regulated(default: i64, system: i64, hour: &HourRecord) -> Result<Prices, PricingRefusal>
     ensures { result ≡ answered (pricing_map (ChosenPricing.Regulating default)) system (record_figures hour.now) }
 {
-    match Price::new(default) {
+    match Price::new(default).or(Price::new(0)) {
         Some(default) => Regulating { default }.prices(system, hour),
-        None => match Price::new(0) {
-            Some(default) => Regulating { default }.prices(system, hour),
-            None => unreachable(),
-        },
+        None => unreachable(),
     }
 }
 
@@ -78,29 +75,47 @@ impl Sharing for ChosenSharing {
     }
 }
 
+// The number as a default: that of a price.
+fn in_range(given: i64) -> Result<i64, Refusal>
+    ensures { result ≡ chosen (first_of (value_check (within 99999) given ∷ [])) given }
+{
+    let price = Price::new(given).ok_or(Refusal::OutOfRange { given })?;
+    Ok(price.value())
+}
+
+// The pricing rule of this number, with this default.
+fn pricing_rule(number: i64, default: i64) -> Result<ChosenPricing, Refusal>
+    ensures { result ≡ chosen (first_of (pricing_checks number default)) (pricing_chosen number default) }
+{
+    match number {
+        1 => Ok(ChosenPricing::Regulating {
+            default: in_range(default)?,
+        }),
+        2 => {
+            in_range(default)?;
+            Ok(ChosenPricing::Ladder)
+        }
+        _ => Err(Refusal::OutOfRange { given: number }),
+    }
+}
+
+// The sharing rule of this number.
+fn sharing_rule(number: i64) -> Result<ChosenSharing, Refusal>
+    ensures { result ≡ chosen (first_of (sharing_checks number)) (sharing_chosen number) }
+{
+    match number {
+        1 => Ok(ChosenSharing::Running),
+        2 => Ok(ChosenSharing::LargestRemainder),
+        _ => Err(Refusal::OutOfRange { given: number }),
+    }
+}
+
 // The rules of these numbers; refused are, in this order, the pricing rule's number, the default and the sharing rule's number.
 pub fn choose(pricing: i64, default: i64, sharing: i64) -> Result<Rules, Refusal>
     ensures { result ≡ chosen (first_of (rules_checks pricing default sharing)) (rules_chosen pricing default sharing) }
 {
-    if pricing < 1 || pricing > 2 {
-        return Err(Refusal::OutOfRange { given: pricing });
-    }
-    if default < -99_999 || default > 99_999 {
-        return Err(Refusal::OutOfRange { given: default });
-    }
-    if sharing < 1 || sharing > 2 {
-        return Err(Refusal::OutOfRange { given: sharing });
-    }
-    let pricing = if pricing == 1 {
-        ChosenPricing::Regulating { default }
-    } else {
-        ChosenPricing::Ladder
-    };
-    let sharing = if sharing == 1 {
-        ChosenSharing::Running
-    } else {
-        ChosenSharing::LargestRemainder
-    };
+    let pricing = pricing_rule(pricing, default)?;
+    let sharing = sharing_rule(sharing)?;
     Ok(Rules { pricing, sharing })
 }
 

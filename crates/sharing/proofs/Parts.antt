@@ -1,9 +1,8 @@
 -- By the laws of sharing no part is larger in magnitude than the remainder. Assumes nothing.
 use Rattle.std.proofs.Common.{ℕ, ◌+◌, ◌*◌, ◌<◌, ◌≤◌, List, length, get_or, ℤ, pos, ◌*ℤ◌, nat_abs, sym, subst, ⊎_elim, lt_of_mul-lt-mul_right, mul-le-mul_left, arith}
-use Rattle.std.proofs.lemmas.Int.{ints}
+use Rattle.std.proofs.lemmas.Int.{ints, unsigned_abs-mul}
 use Rattle.std.proofs.lemmas.Bool.{cases_lt}
 use Rattle.units.specs.Sums.{sum_n, page}
-use Rattle.units.proofs.Integers.{nat_abs_mul}
 use Rattle.units.proofs.Summing.{page-inside, page_past}
 use Rattle.sharing.specs.Laws.{Lawful}
 use Rattle.sharing.proofs.Signs.{at_most_sum}
@@ -14,8 +13,8 @@ some_part_within f laws n ws k p h =
     let w = get_or ws k 0 in
     let x = get_or (f n ws) k (pos 0) in
     let fair = laws.fair n ws k p h in
-    let a = nat_abs_mul x (pos W) in
-    let b = nat_abs_mul n (pos w) in
+    let a = unsigned_abs-mul x (pos W) in
+    let b = unsigned_abs-mul n (pos w) in
     let m : nat_abs n * w ≤ nat_abs n * W = mul-le-mul_left (nat_abs n) (at_most_sum ws k) in
     let c : nat_abs (x *ℤ pos W) < W + nat_abs (n *ℤ pos w) = omega (arith, ints) in
     let d : nat_abs x * W < (1 + nat_abs n) * W = omega arith in

@@ -1,8 +1,9 @@
 -- What the largest remainder rule means, and the steps of its loops. That it keeps the laws is in `specs/Ranks`. Assumes nothing.
-use Rattle.std.specs.Prelude.{◌≡◌, ℕ, ◌+◌, ◌-◌, ◌<◌, Bool, true, false, cond, ◌⊎◌, List, map, length, get_or, ℤ, pos, nat_lt, slice_index, slice_index_or, unsigned_abs, refl}
+use Rattle.std.specs.Prelude.{◌≡◌, ℕ, ◌+◌, ◌-◌, ◌*◌, ◌/◌, ◌<◌, Bool, true, false, cond, ◌⊎◌, List, map, length, get_or, ℤ, pos, nat_lt, slice_index, slice_index_or, unsigned_abs, refl}
 use Rattle.std.proofs.Common.{arith, not-suc-le-zero, inl, inr, ⊎_elim, sym, ap, ◌∙◌}
+use mir.Val.{bool_byte}
 use Rattle.std.specs.List.{range_with_len}
-use Rattle.std.proofs.lemmas.List.FromFn.{fill_by_all}
+use Rattle.std.proofs.lemmas.List.{length-map}
 use Rattle.std.proofs.lemmas.Bool.{cases_lt}
 use Rattle.units.specs.Sums.{sum_n, page}
 use Rattle.units.proofs.Summing.{page-inside}
@@ -10,9 +11,10 @@ use Rattle.sharing.specs.Rules.{floors, rests, leftover, before, rank, largest_s
 use Rattle.sharing.specs.Signs.{get_or_signed}
 use Rattle.sharing.proofs.Signs.{signed_same}
 use Rattle.sharing.specs.Leftovers.{handed, enough, give_order, no_weight, leftover_is}
-use Rattle.sharing.specs.Ranks.{tally_more, before_from, ahead_of, largest_at, same_shares, largest_lawful}
+use Rattle.sharing.specs.Ranks.{before_from, largest_at, same_shares, largest_lawful}
 
-one_or_none : (b : Bool) → (◌≡◌ {A = ℕ} (cond b 1 0) 0) ⊎ (◌≡◌ {A = ℕ} (cond b 1 0) 1)
+-- one more or none
+pub one_or_none : (b : Bool) → (◌≡◌ {A = ℕ} (cond b 1 0) 0) ⊎ (◌≡◌ {A = ℕ} (cond b 1 0) 1)
 one_or_none true = inr refl
 one_or_none false = inl refl
 
@@ -44,13 +46,18 @@ serves n ws ps same =
 pub serves_page : (n : ℤ) (ws : List ℕ) (ps : List ℤ) → ps ≡ page (largest_remainder n ws) → Serves n ws ps
 serves_page n ws ps e = serves n ws ps (λ k h. ap (λ (xs : List ℤ). get_or xs k (pos 0)) e ∙ page-inside (largest_remainder n ws) k (omega (arith, largest_lawful.len n ws)))
 
--- one party more in the count of those before party k
-pub rank_more : (rs : List ℕ) (k j n : ℕ) → n ≡ sum_n (map (λ i. cond (before rs i k) 1 0) (range_with_len 0 j)) + cond (before rs j k) 1 0 → n ≡ sum_n (map (λ i. cond (before rs i k) 1 0) (range_with_len 0 (j + 1)))
-rank_more rs k j n e = e ∙ sym (tally_more (ahead_of rs k) j)
+pub byte_is : (b : Bool) → ◌≡◌ {A = ℕ} (bool_byte b) (cond b 1 0)
+byte_is true = refl
+byte_is false = refl
+
+-- floors with one haler more for each party that has fewer before it than l
+abbrev served : ℕ → List ℕ → List ℕ → List ℕ
+served l rs qs = map (λ k. slice_index qs k + cond (nat_lt (rank rs k) l) 1 0) (range_with_len 0 (length qs))
 
 -- floors with the halers left over are the rule's shares
-pub allotted : (m : ℕ) (ws qs xs : List ℕ) (l : ℕ) → 0 < sum_n ws → qs ≡ floors m ws → l ≡ m - sum_n qs → length xs ≡ length ws → ((k : ℕ) → k < length ws → slice_index xs k ≡ slice_index qs k + cond (nat_lt (rank (rests m ws) k) l) 1 0) → xs ≡ largest_shares m ws
-allotted m ws qs xs l p eq el len h =
-    let e : l ≡ leftover m ws = el ∙ ap (λ (ys : List ℕ). m - sum_n ys) eq ∙ sym (leftover_is m ws p) in
-    fill_by_all (largest_share m ws) xs (length ws) 0 len
-    (λ k b. h k b ∙ ap (λ (ys : List ℕ). slice_index ys k + cond (nat_lt (rank (rests m ws) k) l) 1 0) eq ∙ ap (λ n. slice_index (floors m ws) k + cond (nat_lt (rank (rests m ws) k) n) 1 0) e)
+pub allotted : (m : ℕ) (ws qs rs : List ℕ) (l : ℕ) → 0 < sum_n ws → qs ≡ floors m ws → rs ≡ rests m ws → l ≡ m - sum_n (floors m ws) → served l rs qs ≡ largest_shares m ws
+allotted m ws qs rs l p eq er el =
+    ap (λ (xs : List ℕ). served l rs xs) eq
+    ∙ ap (λ (xs : List ℕ). served l xs (floors m ws)) er
+    ∙ ap (λ n. served n (rests m ws) (floors m ws)) (el ∙ sym (leftover_is m ws p))
+    ∙ ap (λ n. map (largest_share m ws) (range_with_len 0 n)) (length-map ws (λ w. m * w / sum_n ws))

@@ -7,7 +7,7 @@
 --   Within n ws         the magnitudes of the remainder and the weights are in range
 --   Light ws            the same of weights as natural numbers
 --   Admits n ws r       r admits what is in range, and otherwise tells why not
-use Rattle.std.specs.Prelude.{◌≡◌, ℕ, ◌<◌, ◌≤◌, Bool, cond, ◌&&◌, List, [], ◌∷◌, map, length, ℤ, pos, Some, None, Ok, Err, Option, Result, int_le, nat_lt, slice_index, slice_index_or, unsigned_abs}
+use Rattle.std.specs.Prelude.{◌≡◌, ℕ, ◌<◌, ◌≤◌, Bool, cond, ◌&&◌, not, List, map, find, option_map, length, ℤ, pos, Some, None, Ok, Err, Option, Result, int_le, nat_lt, slice_index, slice_index_or, unsigned_abs}
 use Rattle.refusals.specs.declared.Told.{Told}
 use Rattle.units.specs.Sums.{page}
 use Rattle.sharing.specs.declared.refusal.SharingRefusal.{SharingRefusal}
@@ -19,8 +19,7 @@ in_range w = int_le (pos 0) w && int_le w (pos 499999)
 
 -- the refusal of the first weight out of range
 abbrev pub weight_refusal : List ℤ → Option SharingRefusal
-weight_refusal [] = None
-weight_refusal (w ∷ ws) = cond (in_range w) (weight_refusal ws) (Some (Weight w))
+weight_refusal ws = option_map Weight (find (λ w. not (in_range w)) ws)
 
 -- the first of three reasons that holds: the remainder beyond ±600,000,000,000, over 20 weights, a weight out of range
 abbrev pub refusal : ℤ → List ℤ → Option SharingRefusal

@@ -1,12 +1,13 @@
 -- The largest remainder rule, by the parties before each, is the same as halers handed out one by one; so it keeps the laws. Assumes nothing.
-use Rattle.std.specs.Prelude.{◌≡◌, ℕ, zero, suc, ◌+◌, ◌-◌, ◌*◌, ◌%◌, ◌<◌, ◌≤◌, true, false, cond, List, [], ◌∷◌, map, length, take, ◌==◌, nat_lt, slice_index}
+use Rattle.std.specs.Prelude.{◌≡◌, ℕ, zero, suc, ◌+◌, ◌-◌, ◌*◌, ◌%◌, ◌<◌, ◌≤◌, true, false, cond, List, [], ◌∷◌, ◌++◌, length, take, ◌==◌, nat_lt, slice_index}
 use Rattle.std.proofs.Common.{arith, not-suc-le-zero, ⊎_elim, sym, ap, subst, ◌∙◌}
-use Rattle.std.specs.List.{range_with_len}
-use Rattle.std.proofs.lemmas.List.FromFn.{length-map-range_with_len, get_or-map-range_with_len, map-range_with_len_more}
+use Rattle.std.specs.List.{range_with_len, sum_by}
+use Rattle.std.proofs.lemmas.List.FromFn.{length-map-range_with_len, get_or-map-range_with_len}
 use Rattle.std.proofs.lemmas.List.{ext_get_or, take_all, length-map}
+use Rattle.std.proofs.lemmas.List.Sums.{sum_by_push}
 use Rattle.std.proofs.lemmas.Bool.{both_ways, cond_both, cond-true, cond-false, lt-ltb, le-ltb, eq-eqb, ne_eqb, or_left, or_right, or_from, and_from, and_left, and_right, cases_lt}
 use Rattle.units.specs.Sums.{sum_n}
-use Rattle.units.proofs.Summing.{sum_n-append, sum_n_more}
+use Rattle.units.proofs.Summing.{sum_n_more}
 use Rattle.sharing.specs.Laws.{Lawful}
 use Rattle.sharing.specs.Rules.{floors, rests, leftover, before, rank, largest_share, largest_shares, largest_remainder}
 use Rattle.sharing.specs.Signs.{Splits, splits_same, lawful}
@@ -15,13 +16,14 @@ use Rattle.sharing.specs.Leftovers.{Ahead, give, handed, Enough, enough, give_le
 -- Sums over the first n parties
 
 abbrev tally : (ℕ → ℕ) → ℕ → ℕ
-tally f n = sum_n (map f (range_with_len 0 n))
+tally f n = sum_by f (range_with_len 0 n)
 
-pub tally_more : (f : ℕ → ℕ) (n : ℕ) → tally f (n + 1) ≡ tally f n + f n
-tally_more f n = omega (arith, ap sum_n (map-range_with_len_more f 0 n n (omega arith)), sum_n-append (map f (range_with_len 0 n)) (f n ∷ []))
+range_more : (a n : ℕ) → range_with_len a (suc n) ≡ range_with_len a n ++ (a + n) ∷ []
+range_more a zero = ap (λ (k : ℕ). k ∷ []) (omega arith)
+range_more a (suc n) = ap (λ (ks : List ℕ). a ∷ ks) (range_more (a + 1) n ∙ ap (λ (k : ℕ). range_with_len (a + 1) n ++ k ∷ []) (omega arith))
 
 tally_suc : (f : ℕ → ℕ) (n : ℕ) → tally f (suc n) ≡ tally f n + f n
-tally_suc f n = let e : suc n ≡ n + 1 = omega arith in ap (tally f) e ∙ tally_more f n
+tally_suc f n = ap (sum_by f) (range_more 0 n ∙ ap (λ (k : ℕ). range_with_len 0 n ++ k ∷ []) (omega arith)) ∙ sum_by_push f (range_with_len 0 n) n
 
 tally_mono : (f g : ℕ → ℕ) (n : ℕ) → ((j : ℕ) → j < n → f j ≤ g j) → tally f n ≤ tally g n
 tally_mono f g zero h = omega arith

@@ -3,7 +3,7 @@
 --   running n ws            the parts of the running rule
 --   largest_remainder n ws  the parts of the largest remainder rule
 --   Serves n ws ps          the parts ps are floors, with one haler more for the largest remainders
-use Rattle.std.specs.Prelude.{◌≡◌, ℕ, ◌+◌, ◌-◌, ◌*◌, ◌/◌, ◌%◌, ◌<◌, Bool, true, false, cond, ◌&&◌, ◌||◌, ◌⊎◌, List, map, length, take, ℤ, pos, negsuc, neg_ℤ, ◌==◌, nat_lt, slice_index, slice_index_or, unsigned_abs}
+use Rattle.std.specs.Prelude.{◌≡◌, ℕ, ◌+◌, ◌-◌, ◌*◌, ◌/◌, ◌%◌, ◌<◌, Bool, true, false, cond, ◌&&◌, ◌||◌, ◌⊎◌, List, map, length, take, ℤ, pos, negsuc, neg_ℤ, ◌==◌, count_by, nat_lt, slice_index, slice_index_or, unsigned_abs}
 use Rattle.std.specs.List.{range_with_len}
 use Rattle.units.specs.Sums.{sum_n}
 
@@ -54,7 +54,7 @@ before rs j k = nat_lt (slice_index rs k) (slice_index rs j) || (slice_index rs 
 
 -- how many parties come before party k
 abbrev pub rank : List ℕ → ℕ → ℕ
-rank rs k = sum_n (map (λ j. cond (before rs j k) 1 0) (range_with_len 0 (length rs)))
+rank rs k = count_by (λ j. before rs j k) (range_with_len 0 (length rs))
 
 -- party k's share of m halers: its floor, and one haler more if those before it leave one over
 abbrev pub largest_share : ℕ → List ℕ → ℕ → ℕ

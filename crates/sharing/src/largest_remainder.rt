@@ -1,12 +1,13 @@
 // The largest remainder rule: every party gets its floor, and the halers left over go one each to the largest remainders.
-ghost use Rattle.std.specs.Prelude.{◌≡◌, ℕ, ◌+◌, ◌*◌, ◌%◌, ◌<◌, ◌≤◌, map, length, replicate, if◌then◌else◌, None, nat_lt, slice_index};
-ghost use Rattle.sharing.specs.Limits.{refusal, answer, afterwards, magnitudes, Within, Light};
-ghost use Rattle.sharing.specs.Rules.{signed, largest_remainder, largest_shares, floors, rests as all_rests, before, rank, Serves};
-ghost use Rattle.units.specs.Sums.{sum_n, page};
-ghost use Rattle.sharing.specs.Ranks.{largest_lawful};
+ghost use Rattle.std.specs.Prelude.{◌≡◌, ℕ, ◌+◌, ◌<◌, ◌≤◌, map, length, None, if◌then◌else◌, nat_lt, slice_index};
+ghost use Rattle.std.specs.List.{range_with_len};
+ghost use Rattle.sharing.specs.Limits.{refusal, answer, afterwards, magnitudes};
+ghost use Rattle.sharing.specs.Rules.{largest_remainder, largest_shares, floors, rests as all_rests, before, rank, Serves};
+ghost use Rattle.units.specs.Sums.{sum_n};
+ghost use Rattle.sharing.specs.Ranks.{largest_lawful, largest_splits};
 
 use super::refusal::SharingRefusal;
-use super::{Sharing, admit, floor, magnitudes, restore, sum};
+use super::{Division, Numbers, Sharing, Split, share_by, sum};
 
 #[derive(Clone, Copy)]
 pub struct LargestRemainder;
@@ -27,107 +28,47 @@ impl Sharing for LargestRemainder {
         ensures page { parts.new ≡ afterwards (refusal remainder weights.now) (largest_remainder remainder (magnitudes weights.now)) parts.old }
         ensures serves { refusal remainder weights.now ≡ None → Serves remainder (magnitudes weights.now) parts.new }
     {
-        admit(remainder, weights)?;
-        fill(remainder, weights, parts);
-        Ok(())
+        share_by(self, remainder, weights, parts)
     }
 }
 
-// Fills the page with the parts of a remainder and weights in range.
-fn fill(remainder: i64, weights: &[i64], parts: &mut [i64; 20])
-    requires { Within remainder weights.now }
-    ensures page { parts.new ≡ page (largest_remainder remainder (magnitudes weights.now)) }
-    ensures serves { Serves remainder (magnitudes weights.now) parts.new }
-{
-    let kwh = magnitudes(weights);
-    let mut shares = [0; 20];
-    fill_by(
-        remainder.unsigned_abs(),
-        remainder < 0,
-        &kwh[0..weights.len()],
-        &mut shares[0..weights.len()],
-        parts,
-    );
-}
+impl Division for LargestRemainder {
+    ghost shares = { λ _ m ws. largest_shares m ws };
 
-// Fills the page with the parts of m halers under a sign, and the room for shares with their magnitudes.
-fn fill_by(m: u64, negative: bool, weights: &[u64], shares: &mut [u64], parts: &mut [i64; 20])
-    requires halers { m ≤ 600000000000 }
-    requires light { Light weights.now }
-    requires clear { shares.old ≡ replicate (length weights.now) 0 }
-    ensures page { parts.new ≡ page (map (signed negative) (largest_shares m weights.now)) }
-    ensures shares { shares.new ≡ largest_shares m weights.now }
-{
-    split(m, weights, shares);
-    restore(negative, shares, parts);
-}
+    ghost splits = { λ s. largest_splits };
 
-// The shares of m halers, all 0 where there is no weight.
-fn split(m: u64, weights: &[u64], shares: &mut [u64])
-    requires halers { m ≤ 600000000000 }
-    requires light { Light weights.now }
-    requires clear { shares.old ≡ replicate (length weights.now) 0 }
-    ensures { shares.new ≡ largest_shares m weights.now }
-{
-    let total = sum(weights);
-    if total > 0 {
-        let mut rests = [0; 20];
-        allot(m, weights, total, shares, &mut rests[0..weights.len()]);
+    fn divide(&self, split: &Split) -> Numbers {
+        let (floors, rests) = floors_and_rests(split);
+        serve(split.halers - sum(&floors), &rests, &floors)
     }
 }
 
-// The shares of m halers, and the remainders, over a total weight that is not 0.
-fn allot(m: u64, weights: &[u64], total: u64, shares: &mut [u64], rests: &mut [u64])
-    requires halers { m ≤ 600000000000 }
-    requires whole { total ≡ sum_n weights.now }
-    requires light { total ≤ 9999980 }
-    requires some { 1 ≤ total }
-    requires even { (length shares.old ≡ length weights.now) × (length rests.old ≡ length weights.now) }
-    ensures shares { shares.new ≡ largest_shares m weights.now }
-    ensures rests { rests.new ≡ all_rests m weights.now }
+// The floor of each weight's share, and its remainder.
+fn floors_and_rests(split: &Split) -> (Numbers, Numbers)
+    ensures floors { result.0.items ≡ floors split.now.halers split.now.weights.items }
+    ensures rests { result.1.items ≡ all_rests split.now.halers split.now.weights.items }
 {
-    divide(m, weights, total, shares, rests);
-    serve(m - sum(shares), rests, shares);
-}
-
-// The floor of each weight's share, and its remainder, over a total weight that is not 0.
-fn divide(m: u64, weights: &[u64], total: u64, shares: &mut [u64], rests: &mut [u64])
-    requires halers { m ≤ 600000000000 }
-    requires whole { total ≡ sum_n weights.now }
-    requires light { total ≤ 9999980 }
-    requires some { 1 ≤ total }
-    requires even { (length shares.old ≡ length weights.now) × (length rests.old ≡ length weights.now) }
-    ensures shares { shares.new ≡ floors m weights.now }
-    ensures rests { rests.new ≡ all_rests m weights.now }
-{
-    for i in 0..weights.len() {
-        shares[i] = floor(m, weights[i], total);
-        rests[i] = rest(m, weights[i], total);
+    let mut floors = Numbers::new();
+    let mut rests = Numbers::new();
+    for weight in split.weights.iter() {
+        floors.push(split.floor(*weight));
+        rests.push(split.rest(*weight));
     }
+    (floors, rests)
 }
 
-// What m × weight / total leaves.
-fn rest(m: u64, weight: u64, total: u64) -> u64
-    requires halers { m ≤ 600000000000 }
-    requires part { weight ≤ total }
-    requires light { total ≤ 9999980 }
-    requires some { 1 ≤ total }
-    ensures { result ≡ m * weight % total }
+// The floors, with one haler more for each party that has fewer before it than halers are left.
+fn serve(left: u64, rests: &[u64], floors: &[u64]) -> Numbers
+    requires few { length floors.now ≤ 20 }
+    requires even { length rests.now ≡ length floors.now }
+    requires halers { sum_n floors.now ≤ 600000000000 }
+    ensures { result.items ≡ map (λ k. slice_index floors.now k + (if nat_lt (rank rests.now k) left then 1 else 0)) (range_with_len 0 (length floors.now)) }
 {
-    m * weight % total
-}
-
-// Gives one haler more to each party that has fewer before it than halers are left.
-fn serve(left: u64, rests: &[u64], shares: &mut [u64])
-    requires even { length rests.now ≡ length shares.old }
-    requires halers { sum_n shares.old ≤ 600000000000 }
-    ensures { (k : ℕ) → k < length shares.old → slice_index shares.new k ≡ slice_index shares.old k + (if nat_lt (rank rests.now k) left then 1 else 0) }
-{
-    for k in 0..shares.len() {
-        if place_in_line(rests, k) < left {
-            shares[k] += 1;
-        }
+    let mut shares = Numbers::new();
+    for (k, floor) in floors.iter().enumerate() {
+        shares.push(*floor + u64::from(place_in_line(rests, k) < left));
     }
+    shares
 }
 
 // How many parties come before party k.
@@ -135,13 +76,9 @@ fn place_in_line(rests: &[u64], k: usize) -> u64
     requires { k < length rests.now }
     ensures { result ≡ rank rests.now k }
 {
-    let mut ahead = 0;
-    for j in 0..rests.len() {
-        if comes_before(rests, j, k) {
-            ahead += 1;
-        }
-    }
-    ahead
+    (0..rests.len())
+        .filter(|j| comes_before(rests, *j, k))
+        .count() as u64
 }
 
 // Whether party j comes before party k.

@@ -14,9 +14,7 @@ fn shares<S: Sharing>(rt: &impl Abort, rule: &S, remainder: i64, weights: &[i64]
     let mut parts = BEFORE;
     assert!(rt; rule.share(remainder, weights, &mut parts).is_ok());
     let mut expected = [0; 20];
-    expected[0] = first[0];
-    expected[1] = first[1];
-    expected[2] = first[2];
+    expected[..3].copy_from_slice(&first);
     assert_eq!(rt; parts, expected);
 }
 

@@ -8,7 +8,6 @@ ghost use Rattle.sheet.specs.Gathering.{facts, first_missing, gather_refusal, no
 use super::gathered::Gathered;
 use super::row::{Row, SheetRefusal};
 use hourly::cell::Cell;
-use hourly::deliveries::Deliveries;
 use hourly::plain::{PlainCell, PlainRecord};
 use hourly::record::HourRecord;
 use refusals::{Tells, Told};
@@ -137,16 +136,8 @@ impl Gathered {
         ensures facts { facts result ≡ no_facts }
         ensures page { result.rows ≡ row_page [] }
     {
-        let none = Deliveries {
-            kwh: 0,
-            total: 0,
-            extreme: None,
-        };
         let rows = no_rows();
-        let deliveries = HourRecord {
-            upward: none,
-            downward: none,
-        };
+        let deliveries = HourRecord::default();
         let refusal = Some(refusal);
         Gathered {
             count: 0,

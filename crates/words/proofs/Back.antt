@@ -1,8 +1,8 @@
 -- Reading what is written gives it back: of all answers that a line may get, the text of a form has one.
 use Rattle.std.proofs.Common.{◌≡◌, ℕ, ◌+◌, ◌≤◌, Bool, true, false, cond, ◌⊎◌, List, [], ◌∷◌, ◌++◌, length, get_or, ℤ, pos, Ok, Err, Result, sym, refl, ap, ◌∙◌, subst, ⊎_elim, append_assoc, arith}
-use Rattle.std.specs.List.{AllByRecursion}
+use Rattle.std.specs.List.{All}
+use Rattle.std.proofs.lemmas.List.Elements.{All-nil, All-cons, All-head, All-tail, All-append, All-weaker}
 use Rattle.std.specs.Str.{bytes_eq}
-use Rattle.std.proofs.ByRecursion.{All-get_or, All-append, All-weaker}
 use Rattle.std.proofs.lemmas.List.{map-append}
 use Rattle.std.proofs.lemmas.Bool.{cond_both, both_ways}
 use Rattle.std.proofs.lemmas.Bool.Decides.{nat_tests}
@@ -29,11 +29,11 @@ abbrev lettered : List ℕ → Bool
 lettered [] = true
 lettered (b ∷ w) = cond (letter b) (lettered w) false
 
-letters : (w : List ℕ) → lettered w ≡ true → AllByRecursion Letter w
-letters [] e = tt
+letters : (w : List ℕ) → lettered w ≡ true → All Letter w
+letters [] e = All-nil Letter
 letters (b ∷ w) e =
-    cond_both (letter b) (lettered w) false (λ r. r ≡ true → AllByRecursion Letter (b ∷ w))
-    (λ l k. (grind (arith, nat_tests), letters w k))
+    cond_both (letter b) (lettered w) false (λ r. r ≡ true → All Letter (b ∷ w))
+    (λ l k. All-cons Letter b w (grind (arith, nat_tests)) (letters w k))
     (λ l k. absurd (both_ways false refl k)) e
 
 abbrev worded : List (List ℕ) → Bool
@@ -41,12 +41,12 @@ worded [] = true
 worded ([] ∷ ws) = false
 worded ((b ∷ w) ∷ ws) = cond (lettered (b ∷ w)) (worded ws) false
 
-words : (ws : List (List ℕ)) → worded ws ≡ true → AllByRecursion Word ws
-words [] e = tt
+words : (ws : List (List ℕ)) → worded ws ≡ true → All Word ws
+words [] e = All-nil Word
 words ([] ∷ ws) e = absurd (both_ways false refl e)
 words ((b ∷ w) ∷ ws) e =
-    cond_both (lettered (b ∷ w)) (worded ws) false (λ r. r ≡ true → AllByRecursion Word ((b ∷ w) ∷ ws))
-    (λ l k. ((omega arith, letters (b ∷ w) l), words ws k))
+    cond_both (lettered (b ∷ w)) (worded ws) false (λ r. r ≡ true → All Word ((b ∷ w) ∷ ws))
+    (λ l k. All-cons Word (b ∷ w) ws (omega arith, letters (b ∷ w) l) (words ws k))
     (λ l k. absurd (both_ways false refl k)) e
 
 table_words : (k : Kind) → worded (head_text k ∷ field_names k) ≡ true
@@ -151,7 +151,7 @@ fields_in f = fields_of (field_names (kind_of f)) (numbers_of f)
 is_form : (f : Form) → Short f → IsForm (form_text f) (head_text (kind_of f)) (fields_in f)
 is_form f s =
     let w = words (head_text (kind_of f) ∷ field_names (kind_of f)) (table_words (kind_of f)) in
-    (w.0, all_good (field_names (kind_of f)) (numbers_of f) w.1 s, refl)
+    (All-head Word (head_text (kind_of f)) (field_names (kind_of f)) w, all_good (field_names (kind_of f)) (numbers_of f) (All-tail Word (head_text (kind_of f)) (field_names (kind_of f)) w) s, refl)
 
 not_long : (f : Form) → Short f → length (form_text f) ≤ 200
 not_long f s =
@@ -167,26 +167,25 @@ letter_in b h = grind (arith, nat_tests)
 digit_in : (b : ℕ) → Digit b → Admitted b
 digit_in b h = grind (arith, nat_tests)
 
-sign_in : (sg : List ℕ) → (sg ≡ []) ⊎ (sg ≡ 45 ∷ []) → AllByRecursion Admitted sg
-sign_in sg s = ⊎_elim (λ e. subst (AllByRecursion Admitted) (sym e) tt) (λ e. subst (AllByRecursion Admitted) (sym e) (refl, tt)) s
+sign_in : (sg : List ℕ) → (sg ≡ []) ⊎ (sg ≡ 45 ∷ []) → All Admitted sg
+sign_in sg s = ⊎_elim (λ e. subst (All Admitted) (sym e) (All-nil Admitted)) (λ e. subst (All Admitted) (sym e) (All-cons Admitted 45 [] refl (All-nil Admitted))) s
 
-word_in : (w : List ℕ) → Word w → AllByRecursion Admitted w
+word_in : (w : List ℕ) → Word w → All Admitted w
 word_in w h = All-weaker Letter Admitted letter_in w h.1
 
-rest_in : (fs : List Field) → AllByRecursion GoodField fs → AllByRecursion Admitted (rest fs)
-rest_in [] g = (refl, tt)
+rest_in : (fs : List Field) → All GoodField fs → All Admitted (rest fs)
+rest_in [] g = All-cons Admitted 41 [] refl (All-nil Admitted)
 rest_in (f ∷ fs) g =
-    let tail : AllByRecursion Admitted (41 ∷ rest fs) = (refl, rest_in fs g.1) in
-    let ds : AllByRecursion Admitted (f.digits ++ (41 ∷ rest fs)) = All-append Admitted f.digits (41 ∷ rest fs) (All-weaker Digit Admitted digit_in f.digits g.0.counted.1) tail in
-    let number : AllByRecursion Admitted (f.sign ++ (f.digits ++ (41 ∷ rest fs))) = All-append Admitted f.sign (f.digits ++ (41 ∷ rest fs)) (sign_in f.sign g.0.signed) ds in
-    (refl, (refl, All-append Admitted f.name (32 ∷ (f.sign ++ (f.digits ++ (41 ∷ rest fs)))) (word_in f.name g.0.named) (refl, number)))
-
-text_in : (line head : List ℕ) (fields : List Field) → IsForm line head fields → AllByRecursion Admitted line
-text_in line head fields h =
-    subst (AllByRecursion Admitted) (sym h.2) (refl, All-append Admitted head (rest fields) (word_in head h.0) (rest_in fields h.1))
+    let good = All-head GoodField f fs g in
+    let name : List ℕ = f.name ++ (32 ∷ (f.sign ++ (f.digits ++ (41 ∷ rest fs)))) in
+    let tail : All Admitted (41 ∷ rest fs) = All-cons Admitted 41 (rest fs) refl (rest_in fs (All-tail GoodField f fs g)) in
+    let ds : All Admitted (f.digits ++ (41 ∷ rest fs)) = All-append Admitted f.digits (41 ∷ rest fs) (All-weaker Digit Admitted digit_in f.digits good.counted.1) tail in
+    let number : All Admitted (f.sign ++ (f.digits ++ (41 ∷ rest fs))) = All-append Admitted f.sign (f.digits ++ (41 ∷ rest fs)) (sign_in f.sign good.signed) ds in
+    All-cons Admitted 32 (40 ∷ name) refl (All-cons Admitted 40 name refl (All-append Admitted f.name (32 ∷ (f.sign ++ (f.digits ++ (41 ∷ rest fs)))) (word_in f.name good.named) (All-cons Admitted 32 (f.sign ++ (f.digits ++ (41 ∷ rest fs))) refl number)))
 
 pub clean : (line head : List ℕ) (fields : List Field) → IsForm line head fields → Clean line
-clean line head fields h k l = All-get_or Admitted line k 0 l (text_in line head fields h)
+clean line head fields h =
+    subst (All Admitted) (sym h.2) (All-cons Admitted 40 (head ++ rest fields) refl (All-append Admitted head (rest fields) (word_in head h.0) (rest_in fields h.1)))
 
 -- no field is at fault
 pub fits : (ns : List (List ℕ)) (head : List ℕ) (fs : List Field) (col : ℕ) → names_of fs ≡ ns → Misfit ns head fs col → ⊥
@@ -198,18 +197,18 @@ fits ns head fs col e m =
     (λ x. x.1 e)
     m
 
-later : (before : List Field) (f : Field) (after : List Field) → AllByRecursion Sound (before ++ (f ∷ after)) → Sound f
-later [] f after a = a.0
-later (b ∷ before) f after a = later before f after a.1
+later : (before : List Field) (f : Field) (after : List Field) → All Sound (before ++ (f ∷ after)) → Sound f
+later [] f after a = All-head Sound f after a
+later (b ∷ before) f after a = later before f after (All-tail Sound b (before ++ (f ∷ after)) a)
 
-pub all_fit : (head : List ℕ) (fs : List Field) (col : ℕ) → AllByRecursion Sound fs → FirstUnsound head fs col → ⊥
-all_fit head fs col a x = x.5 (later x.0 x.1 x.2 (subst (AllByRecursion Sound) x.3 a))
+pub all_fit : (head : List ℕ) (fs : List Field) (col : ℕ) → All Sound fs → FirstUnsound head fs col → ⊥
+all_fit head fs col a x = x.5 (later x.0 x.1 x.2 (subst (All Sound) x.3 a))
 
 same : (f : Form) (line : List ℕ) (r : Result Form WordFault) → Short f → line ≡ form_text f → Reads line r → r ≡ Ok f
 same f line (Err (Bracket Long)) s e h = let l = not_long f s in let q = ap length e in absurd (omega arith)
 same f line (Err (Bracket (Byte c))) s e h =
     let k : IsForm line (head_text (kind_of f)) (fields_in f) = subst (λ l. IsForm l (head_text (kind_of f)) (fields_in f)) (sym e) (is_form f s) in
-    absurd (both_ways (admitted (get_or line h.1.0 0)) h.1.3 (clean line (head_text (kind_of f)) (fields_in f) k h.1.0 h.1.2))
+    absurd (both_ways (admitted (get_or line h.1.0 0)) h.1.3 (clean line (head_text (kind_of f)) (fields_in f) k h.1.0 0 h.1.2))
 same f line (Err (Bracket (Shape c))) s e h =
     let k : IsForm line (head_text (kind_of f)) (fields_in f) = subst (λ l. IsForm l (head_text (kind_of f)) (fields_in f)) (sym e) (is_form f s) in
     absurd (h.2.unformed (head_text (kind_of f), fields_in f, k))

@@ -1,7 +1,8 @@
 -- Where the head and the fields of a form lie, and how many numbers it has.
 use Rattle.std.proofs.Common.{◌≡◌, ℕ, ◌+◌, ◌-◌, ◌≤◌, false, List, [], ◌∷◌, ◌++◌, map, length, take, drop, sym, refl, ap, ◌∙◌, arith, Bor}
-use Rattle.std.proofs.lemmas.List.{drop-drop, drop_at, length-map}
-use Rattle.std.proofs.ByRecursion.{All-weaker}
+use Rattle.std.specs.List.{before_first}
+use Rattle.std.proofs.lemmas.List.{drop-drop, drop_at, take_rest, length-map}
+use Rattle.std.proofs.lemmas.List.Elements.{All-weaker}
 use Rattle.std.proofs.lemmas.Bool.Decides.{nat_tests}
 use Rattle.brackets.specs.Bytes.{Letter}
 use Rattle.brackets.specs.Grammar.{Field, rest, IsForm}
@@ -9,8 +10,8 @@ use Rattle.words.specs.declared.reading.Kind.{Kind}
 use Rattle.words.specs.declared.reading.Kind.TheVariants.{Book, Deposit, Withdraw, Register, Market, Close, Regulate, Meter, Evaluate, Show}
 use Rattle.words.specs.Heads.{field_names}
 use Rattle.words.specs.Layer.{name_of, names_of}
-use Rattle.words.specs.Walk.{stops, EndsAt, FieldsAt}
-use Rattle.words.proofs.Cutting.{ends_is, part_is}
+use Rattle.words.specs.Walk.{stops, FieldsAt}
+use Rattle.words.proofs.Cutting.{word_is}
 
 inner : (b : ℕ) → Letter b → stops b ≡ false
 inner b h = grind (arith, nat_tests)
@@ -18,14 +19,11 @@ inner b h = grind (arith, nat_tests)
 after_bracket : (line head : List ℕ) (fields : List Field) → IsForm line head fields → drop 1 line ≡ head ++ rest fields
 after_bracket line head fields h = ap (drop 1) h.2
 
-pub end_is : (line head : List ℕ) (fields : List Field) (r : ℕ) → IsForm line head fields → EndsAt line 1 r → r ≡ 1 + length head
-end_is line head [] r h e =
-    ends_is line 1 r head 41 [] e (after_bracket line head [] h) (All-weaker Letter (λ b. stops b ≡ false) inner head h.0.1) refl
-end_is line head (f ∷ fs) r h e =
-    ends_is line 1 r head 32 _ e (after_bracket line head (f ∷ fs) h) (All-weaker Letter (λ b. stops b ≡ false) inner head h.0.1) refl
-
-pub head_is : (line head : List ℕ) (fields : List Field) (r : ℕ) → IsForm line head fields → r ≡ 1 + length head → take (r - 1) (drop 1 line) ≡ head
-head_is line head fields r h e = part_is line 1 r head (rest fields) (after_bracket line head fields h) e
+pub head_is : (line head : List ℕ) (fields : List Field) → IsForm line head fields → before_first stops (take (length line - 1) (drop 1 line)) ≡ head
+head_is line head [] h =
+    word_is _ head 41 [] (take_rest line 1 ∙ after_bracket line head [] h) (All-weaker Letter (λ b. stops b ≡ false) inner head h.0.1) refl
+head_is line head (f ∷ fs) h =
+    word_is _ head 32 _ (take_rest line 1 ∙ after_bracket line head (f ∷ fs) h) (All-weaker Letter (λ b. stops b ≡ false) inner head h.0.1) refl
 
 pub fields_at : (line head : List ℕ) (fields : List Field) (r : ℕ) → IsForm line head fields → r ≡ 1 + length head → FieldsAt line r fields
 fields_at line head fields r h e =

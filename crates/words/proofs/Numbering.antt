@@ -1,13 +1,13 @@
 -- From number to number.
-use Rattle.std.proofs.Common.{◌≡◌, ℕ, ◌+◌, ◌<◌, List, [], ◌∷◌, ◌++◌, map, length, take, drop, set, ℤ, Some, None, Ok, Err, sym, refl, ap, ◌∙◌, subst, ⊎_elim, append_assoc, append-nil, arith}
+use Rattle.std.proofs.Common.{◌≡◌, ℕ, ◌+◌, ◌<◌, List, [], ◌∷◌, ◌++◌, map, length, take, set, ℤ, Some, None, Ok, Err, sym, refl, ap, ◌∙◌, subst, ⊎_elim, append_assoc, append-nil, arith}
 use Rattle.std.proofs.lemmas.List.{take_more_set}
 use Rattle.std.proofs.lemmas.Bool.{cond-true, cond-false, cases_Bool}
-use Rattle.brackets.specs.Grammar.{Field, rest}
+use Rattle.brackets.specs.Grammar.{Field}
 use Rattle.words.specs.Walk.{malformed}
 use Rattle.words.specs.Walk.{FieldAt, width}
 use Rattle.words.specs.Walk.{FieldsAt}
 use Rattle.words.specs.Walk.{number_text, field_value, first_malformed, one_read}
-use Rattle.words.proofs.Cutting.{rest_cut}
+use Rattle.words.proofs.Cutting.{field_next, fields_after}
 
 -- after i numbers: the fields that are left, and that the answer is the one for these
 pub record Read (line : List ℕ) (fs : List Field) (start count i at : ℕ) (vs : List ℤ) : Type 0 where
@@ -23,12 +23,12 @@ read_none line fs start count vs h e = record { left = fs; here = h; long = omeg
 -- a field is next
 pub next_is : (line : List ℕ) (at : ℕ) (gs : List Field) → FieldsAt line at gs → 0 < length gs → (f : Field) × (fs : List Field) × FieldAt line at f fs
 next_is line at [] h n = absurd (omega arith)
-next_is line at (f ∷ fs) h n = (f, fs, (h.0.0, h.1))
+next_is line at (f ∷ fs) h n = (f, fs, field_next line at f fs h)
 
 more : (line : List ℕ) (fs : List Field) (start count i at n : ℕ) (z : ℤ) (vs : List ℤ) (gs : List Field) → i < length vs → i < count → FieldsAt line at gs → length gs + i ≡ count → first_malformed fs start ≡ first_malformed gs at → map field_value fs ≡ take i vs ++ map field_value gs → ((f : Field) (hs : List Field) → FieldAt line at f hs → Ok (z, n) ≡ one_read (f ∷ hs) at) → Read line fs start count (i + 1) n (set vs i z)
 more line fs start count i at n z vs [] lt less h long same got told = absurd (omega arith)
 more line fs start count i at n z vs (f ∷ gs) lt less h long same got told =
-    let e = told f gs (h.0.0, h.1) in
+    let e = told f gs (field_next line at f gs h) in
     ⊎_elim
     (λ bad.
     let p : Ok (z, n) ≡ Err (at + 4 + length f.name) = e ∙ cond-true (malformed (number_text f)) (Err (at + 4 + length f.name)) (Ok (field_value f, at + width f)) bad in
@@ -40,7 +40,7 @@ more line fs start count i at n z vs (f ∷ gs) lt less h long same got told =
     let m : at + width f ≡ n = sym (ap (λ (y : ℤ × ℕ). y.1) q) in
     record {
       left = gs;
-      here = (h.0.1, subst (λ k. drop k line ≡ rest gs) m (rest_cut line at f gs (h.0.0, h.1)));
+      here = subst (λ k. FieldsAt line k gs) m (fields_after line at f gs h);
       long = omega arith;
       same = same ∙ cond-false (malformed (number_text f)) (Some (at + 4 + length f.name)) (first_malformed gs (at + width f)) good ∙ ap (first_malformed gs) m;
       got = got ∙ ap (λ y. take i vs ++ (y ∷ map field_value gs)) v ∙ sym (append_assoc (take i vs) (z ∷ []) (map field_value gs)) ∙ ap (λ l. l ++ map field_value gs) (sym (take_more_set vs i z lt));
@@ -53,7 +53,7 @@ read_more line fs start count i at n z vs lt less told r = more line fs start co
 bad_one : (line : List ℕ) (at col : ℕ) (gs : List Field) → FieldsAt line at gs → 0 < length gs → ((f : Field) (hs : List Field) → FieldAt line at f hs → Err col ≡ one_read (f ∷ hs) at) → first_malformed gs at ≡ Some col
 bad_one line at col [] h n told = absurd (omega arith)
 bad_one line at col (f ∷ gs) h n told =
-    let e = told f gs (h.0.0, h.1) in
+    let e = told f gs (field_next line at f gs h) in
     ⊎_elim
     (λ bad.
     let p : Err col ≡ Err (at + 4 + length f.name) = e ∙ cond-true (malformed (number_text f)) (Err (at + 4 + length f.name)) (Ok (field_value f, at + width f)) bad in

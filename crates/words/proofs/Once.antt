@@ -1,6 +1,7 @@
 -- A line has one answer of layers 1 and 2: the relations of the layer say no more and no less than the walk over the fields.
 use Rattle.std.proofs.Common.{◌≡◌, ℕ, ◌+◌, true, ◌⊎◌, List, [], ◌∷◌, ◌++◌, length, Some, Ok, Err, Option, Result, sym, refl, ap, ◌∙◌, subst, inl, inr, ⊎_elim, arith}
-use Rattle.std.specs.List.{AllByRecursion}
+use Rattle.std.specs.List.{All}
+use Rattle.std.proofs.lemmas.List.Elements.{All-head, All-tail}
 use Rattle.std.specs.Str.{bytes_eq}
 use Rattle.std.proofs.lemmas.Slice.Eq.{bytes_eq-Decides}
 use Rattle.std.proofs.lemmas.Bool.{cond-true, cond-false, cases_Bool}
@@ -67,35 +68,35 @@ misfit_is ns head fs col m =
     m
 
 -- the first number that is not sound, as the walk finds it
-unsound_is : (before : List Field) (f : Field) (later : List Field) (at : ℕ) → AllByRecursion GoodField (before ++ (f ∷ later)) → AllByRecursion Sound before → (Sound f → ⊥) → first_malformed (before ++ (f ∷ later)) at ≡ Some (at + length (rest before) + length f.name + 3)
+unsound_is : (before : List Field) (f : Field) (later : List Field) (at : ℕ) → All GoodField (before ++ (f ∷ later)) → All Sound before → (Sound f → ⊥) → first_malformed (before ++ (f ∷ later)) at ≡ Some (at + length (rest before) + length f.name + 3)
 unsound_is [] f later at g s t =
     ⊎_elim
     (λ bad. let e : at + 4 + length f.name ≡ at + length (rest []) + length f.name + 3 = omega arith in cond-true (malformed (number_text f)) (Some (at + 4 + length f.name)) (first_malformed later (at + width f)) bad ∙ ap Some e)
-    (λ fine. absurd (t (sound f g.0 fine)))
+    (λ fine. absurd (t (sound f (All-head GoodField f later g) fine)))
     (cases_Bool (malformed (number_text f)))
 unsound_is (b ∷ before) f later at g s t =
     ⊎_elim
-    (λ bad. absurd (unsound b g.0 bad s.0))
+    (λ bad. absurd (unsound b (All-head GoodField b (before ++ (f ∷ later)) g) bad (All-head Sound b before s)))
     (λ fine.
     let l = length_rest b before in
     let e : at + width b + length (rest before) + length f.name + 3 ≡ at + length (rest (b ∷ before)) + length f.name + 3 = omega arith in
     cond-false (malformed (number_text b)) (Some (at + 4 + length b.name)) (first_malformed (before ++ (f ∷ later)) (at + width b)) fine
-    ∙ unsound_is before f later (at + width b) g.1 s.1 t
+    ∙ unsound_is before f later (at + width b) (All-tail GoodField b (before ++ (f ∷ later)) g) (All-tail Sound b before s) t
     ∙ ap Some e)
     (cases_Bool (malformed (number_text b)))
 
-first_unsound_is : (head : List ℕ) (fs : List Field) (col : ℕ) → AllByRecursion GoodField fs → FirstUnsound head fs col → first_malformed fs (1 + length head) ≡ Some col
+first_unsound_is : (head : List ℕ) (fs : List Field) (col : ℕ) → All GoodField fs → FirstUnsound head fs col → first_malformed fs (1 + length head) ≡ Some col
 first_unsound_is head fs col g x =
     let l = length-text head x.0 in
     let c : 1 + length head + length (rest x.0) + length x.1.name + 3 ≡ col = omega (arith, x.6) in
-    ap (λ gs. first_malformed gs (1 + length head)) x.3 ∙ unsound_is x.0 x.1 x.2 (1 + length head) (subst (AllByRecursion GoodField) x.3 g) x.4 x.5 ∙ ap Some c
+    ap (λ gs. first_malformed gs (1 + length head)) x.3 ∙ unsound_is x.0 x.1 x.2 (1 + length head) (subst (All GoodField) x.3 g) x.4 x.5 ∙ ap Some c
 
 one_misfit : (j k : Kind) (head : List ℕ) (fs : List Field) (c d : ℕ) → head ≡ head_text j → head ≡ head_text k → Misfit (field_names j) head fs c → Misfit (field_names k) head fs d → c ≡ d
 one_misfit j k head fs c d e f x y =
     let p : ◌≡◌ {A = Result ℕ ℕ} (Err c) (Err d) = sym (misfit_is (field_names j) head fs c x) ∙ ap (λ i. all_named (field_names i) fs (1 + length head)) (one_kind j k (sym e ∙ f)) ∙ misfit_is (field_names k) head fs d y in
     cc
 
-one_unsound : (head : List ℕ) (fs : List Field) (c d : ℕ) → AllByRecursion GoodField fs → FirstUnsound head fs c → FirstUnsound head fs d → c ≡ d
+one_unsound : (head : List ℕ) (fs : List Field) (c d : ℕ) → All GoodField fs → FirstUnsound head fs c → FirstUnsound head fs d → c ≡ d
 one_unsound head fs c d g x y =
     let p : ◌≡◌ {A = Option ℕ} (Some c) (Some d) = sym (first_unsound_is head fs c g x) ∙ first_unsound_is head fs d g y in cc
 
@@ -103,7 +104,7 @@ one_unsound head fs c d g x y =
 misfit_not : {X : Type 0} (j k : Kind) (head : List ℕ) (fs : List Field) (c : ℕ) → head ≡ head_text j → head ≡ head_text k → Misfit (field_names j) head fs c → names_of fs ≡ field_names k → X
 misfit_not j k head fs c e f m n = absurd (fits (field_names j) head fs c (n ∙ ap field_names (one_kind k j (sym f ∙ e))) m)
 
-form_once : (head : List ℕ) (fs : List Field) (r s : Result Form WordFault) → AllByRecursion GoodField fs → OfForm head fs r → OfForm head fs s → r ≡ s
+form_once : (head : List ℕ) (fs : List Field) (r s : Result Form WordFault) → All GoodField fs → OfForm head fs r → OfForm head fs s → r ≡ s
 form_once head fs (Err (Bracket f)) s g x y = absurd x
 form_once head fs (Err Head) (Err (Bracket f)) g x y = absurd y
 form_once head fs (Err Head) (Err Head) g x y = refl

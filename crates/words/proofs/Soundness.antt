@@ -1,6 +1,7 @@
 -- The walk over the numbers of fields, in the words of the layer.
 use Rattle.std.proofs.Common.{◌≡◌, ℕ, ◌+◌, ◌<◌, ◌≤◌, true, false, eqb, ◌⊎◌, List, [], ◌∷◌, ◌++◌, map, length, get_or, drop, pos, neg_ℤ, Some, None, Option, sym, refl, ap, ◌∙◌, inl, inr, ⊎_elim, arith}
-use Rattle.std.specs.List.{AllByRecursion}
+use Rattle.std.specs.List.{All}
+use Rattle.std.proofs.lemmas.List.Elements.{All-nil, All-cons, All-head, All-tail}
 use Rattle.std.proofs.lemmas.Bool.{cond-true, cond-false, cases_Bool, cases_order}
 use Rattle.std.proofs.lemmas.Bool.Decides.{nat_tests}
 use Rattle.brackets.specs.Grammar.{Numeral, Field, GoodField, rest}
@@ -72,41 +73,41 @@ unsound f g m s = unsound_text f.sign f.digits g.signed g.counted m s.few s.zero
 pub value_is : (f : Field) → GoodField f → field_value f ≡ value f
 value_is f g = value-text f.sign f.digits g.signed g.counted
 
-pub values_are : (fs : List Field) → AllByRecursion GoodField fs → map field_value fs ≡ map value fs
+pub values_are : (fs : List Field) → All GoodField fs → map field_value fs ≡ map value fs
 values_are [] g = refl
-values_are (f ∷ fs) g = let a = value_is f g.0 in let b = values_are fs g.1 in λ i. a i ∷ b i
+values_are (f ∷ fs) g = let a = value_is f (All-head GoodField f fs g) in let b = values_are fs (All-tail GoodField f fs g) in λ i. a i ∷ b i
 
 none_not_some : {X : Type 0} (c : ℕ) → ◌≡◌ {A = Option ℕ} None (Some c) → X
 none_not_some c e = let z : ◌≡◌ {A = ℕ} 0 1 = cc in absurd (omega arith)
 
-pub all_sound : (fs : List Field) (at : ℕ) → AllByRecursion GoodField fs → first_malformed fs at ≡ None → AllByRecursion Sound fs
-all_sound [] at g e = tt
+pub all_sound : (fs : List Field) (at : ℕ) → All GoodField fs → first_malformed fs at ≡ None → All Sound fs
+all_sound [] at g e = All-nil Sound
 all_sound (f ∷ fs) at g e =
     ⊎_elim
     (λ bad. none_not_some (at + 4 + length f.name) (sym e ∙ cond-true (malformed (number_text f)) (Some (at + 4 + length f.name)) (first_malformed fs (at + width f)) bad))
-    (λ good. (sound f g.0 good, all_sound fs (at + width f) g.1 (sym (cond-false (malformed (number_text f)) (Some (at + 4 + length f.name)) (first_malformed fs (at + width f)) good) ∙ e)))
+    (λ good. All-cons Sound f fs (sound f (All-head GoodField f fs g) good) (all_sound fs (at + width f) (All-tail GoodField f fs g) (sym (cond-false (malformed (number_text f)) (Some (at + 4 + length f.name)) (first_malformed fs (at + width f)) good) ∙ e)))
     (cases_Bool (malformed (number_text f)))
 
 -- the same fault for fields that lie from place `at` on
 abbrev UnsoundAt : List Field → ℕ → ℕ → Type 0
-UnsoundAt fs at col = (before : List Field) × (f : Field) × (later : List Field) × (fs ≡ before ++ (f ∷ later)) × AllByRecursion Sound before × (Sound f → ⊥) × (col ≡ at + length (rest before) + length f.name + 3)
+UnsoundAt fs at col = (before : List Field) × (f : Field) × (later : List Field) × (fs ≡ before ++ (f ∷ later)) × All Sound before × (Sound f → ⊥) × (col ≡ at + length (rest before) + length f.name + 3)
 
-unsound_at : (fs : List Field) (at col : ℕ) → AllByRecursion GoodField fs → first_malformed fs at ≡ Some col → UnsoundAt fs at col
+unsound_at : (fs : List Field) (at col : ℕ) → All GoodField fs → first_malformed fs at ≡ Some col → UnsoundAt fs at col
 unsound_at [] at col g e = none_not_some col e
 unsound_at (f ∷ fs) at col g e =
     ⊎_elim
     (λ bad.
     let p : Some (at + 4 + length f.name) ≡ Some col = sym (cond-true (malformed (number_text f)) (Some (at + 4 + length f.name)) (first_malformed fs (at + width f)) bad) ∙ e in
     let c : col ≡ at + 4 + length f.name = cc in
-    ([], f, fs, refl, tt, unsound f g.0 bad, omega arith))
+    ([], f, fs, refl, All-nil Sound, unsound f (All-head GoodField f fs g) bad, omega arith))
     (λ good.
-    let x = unsound_at fs (at + width f) col g.1 (sym (cond-false (malformed (number_text f)) (Some (at + 4 + length f.name)) (first_malformed fs (at + width f)) good) ∙ e) in
+    let x = unsound_at fs (at + width f) col (All-tail GoodField f fs g) (sym (cond-false (malformed (number_text f)) (Some (at + 4 + length f.name)) (first_malformed fs (at + width f)) good) ∙ e) in
     let l = length_rest f x.0 in
-    (f ∷ x.0, x.1, x.2, ap (λ t. f ∷ t) x.3, (sound f g.0 good, x.4), x.5, x.6 ∙ omega arith))
+    (f ∷ x.0, x.1, x.2, ap (λ t. f ∷ t) x.3, All-cons Sound f x.0 (sound f (All-head GoodField f fs g) good) x.4, x.5, x.6 ∙ omega arith))
     (cases_Bool (malformed (number_text f)))
 
 -- the fault of a form whose fields begin after its head
-pub first_unsound : (head : List ℕ) (fs : List Field) (col : ℕ) → AllByRecursion GoodField fs → first_malformed fs (1 + length head) ≡ Some col → FirstUnsound head fs col
+pub first_unsound : (head : List ℕ) (fs : List Field) (col : ℕ) → All GoodField fs → first_malformed fs (1 + length head) ≡ Some col → FirstUnsound head fs col
 first_unsound head fs col g e =
     let x = unsound_at fs (1 + length head) col g e in
     let l = length-text head x.0 in

@@ -9,7 +9,7 @@ use Rattle.words.specs.declared.reading.Token.TheVariants.{Word, Number}
 use Rattle.words.specs.declared.reading.Tokens.{Tokens}
 use Rattle.words.specs.Walk.{FieldAt, Took, IsWord, width}
 use Rattle.words.specs.Walk.{FieldsAt, one_named, all_named}
-use Rattle.words.proofs.Cutting.{rest_cut}
+use Rattle.words.proofs.Cutting.{field_next, fields_after}
 
 first : (line : List ℕ) (at : ℕ) (fs : List Field) → FieldsAt line at fs → get_or line at 0 ≡ get_or (rest fs) 0 0
 first line at fs h = ap (λ i. get_or line i 0) (sym (add-zero at)) ∙ sym (get_or-drop at line 0 0) ∙ ap (λ l. get_or l 0 0) h.1
@@ -27,7 +27,7 @@ at_last line at name (f ∷ fs) e h = let z = first line at (f ∷ fs) h in absu
 
 pub at_field : (line : List ℕ) (at : ℕ) (fs : List Field) → (get_or line at 0 ≡ 41 → ⊥) → FieldsAt line at fs → (f : Field) × (gs : List Field) × FieldAt line at f gs
 at_field line at [] e h = absurd (e (first line at [] h))
-at_field line at (f ∷ fs) e h = (f, fs, (h.0.0, h.1))
+at_field line at (f ∷ fs) e h = (f, fs, field_next line at f fs h)
 
 abbrev Reads : List ℕ → ℕ → Tokens → Type 0
 Reads line at p = (f : Field) (gs : List Field) → FieldAt line at f gs → Took at f p
@@ -35,7 +35,7 @@ Reads line at p = (f : Field) (gs : List Field) → FieldAt line at f gs → Too
 pub hit : (line : List ℕ) (at : ℕ) (name : List ℕ) (p : Tokens) (s : Bor (List ℕ)) (col : ℕ) (fs : List Field) → (get_or line at 0 ≡ 41 → ⊥) → Reads line at p → p.name ≡ Word s col → s.now ≡ name → FieldsAt line at fs → Ok p.next ≡ one_named name fs at
 hit line at name p s col [] bar took is same h = absurd (bar (first line at [] h))
 hit line at name p s col (f ∷ gs) bar took is same h =
-    let t = took f gs (h.0.0, h.1) in
+    let t = took f gs (field_next line at f gs h) in
     let w : IsWord (Word s col) f.name (at + 3) = subst (λ x. IsWord x f.name (at + 3)) is t.name in
     ap Ok t.next ∙ sym (cond-true (bytes_eq f.name name) (Ok (at + width f)) (Err (at + 2)) ((bytes_eq-Decides f.name name).1 (sym w.0 ∙ same)))
 
@@ -46,7 +46,7 @@ not_so false h = refl
 pub miss : (line : List ℕ) (at : ℕ) (name : List ℕ) (p : Tokens) (s : Bor (List ℕ)) (col : ℕ) (fs : List Field) → (get_or line at 0 ≡ 41 → ⊥) → Reads line at p → p.name ≡ Word s col → (s.now ≡ name → ⊥) → FieldsAt line at fs → Err (col - 1) ≡ one_named name fs at
 miss line at name p s col [] bar took is other h = absurd (bar (first line at [] h))
 miss line at name p s col (f ∷ gs) bar took is other h =
-    let t = took f gs (h.0.0, h.1) in
+    let t = took f gs (field_next line at f gs h) in
     let w : IsWord (Word s col) f.name (at + 3) = subst (λ x. IsWord x f.name (at + 3)) is t.name in
     let b : col - 1 ≡ at + 2 = omega (arith, w.1) in
     ap Err b ∙ sym (cond-false (bytes_eq f.name name) (Ok (at + width f)) (Err (at + 2)) (not_so (bytes_eq f.name name) (λ e. other (w.0 ∙ (bytes_eq-Decides f.name name).0 e))))
@@ -60,7 +60,7 @@ name_column line at p s col f fs took is h =
 pub never : {X : Type 0} (line : List ℕ) (at : ℕ) (p : Tokens) (s : Bor (List ℕ)) (col : ℕ) (fs : List Field) → (get_or line at 0 ≡ 41 → ⊥) → Reads line at p → p.name ≡ Number s col → FieldsAt line at fs → X
 never line at p s col [] bar took is h = absurd (bar (first line at [] h))
 never line at p s col (f ∷ gs) bar took is h =
-    let t = took f gs (h.0.0, h.1) in
+    let t = took f gs (field_next line at f gs h) in
     absurd (subst (λ x. IsWord x f.name (at + 3)) is t.name)
 
 -- after some names: the fields that are left, and that the answer is the one for these
@@ -79,7 +79,7 @@ step_ok line at name ns (f ∷ gs) n h e =
     (λ yes'.
     let p : Ok n ≡ Ok (at + width f) = e ∙ cond-true (bytes_eq f.name name) (Ok (at + width f)) (Err (at + 2)) yes' in
     let q : at + width f ≡ n = cc in
-    (gs, (h.0.1, subst (λ k. drop k line ≡ rest gs) q (rest_cut line at f gs (h.0.0, h.1))), cond-true (bytes_eq f.name name) (all_named ns gs (at + width f)) (Err (at + 2)) yes' ∙ ap (all_named ns gs) q))
+    (gs, subst (λ k. FieldsAt line k gs) q (fields_after line at f gs h), cond-true (bytes_eq f.name name) (all_named ns gs (at + width f)) (Err (at + 2)) yes' ∙ ap (all_named ns gs) q))
     (λ other.
     let p : Ok n ≡ Err (at + 2) = e ∙ cond-false (bytes_eq f.name name) (Ok (at + width f)) (Err (at + 2)) other in
     let z : ◌≡◌ {A = ℕ} 0 1 = cc in absurd (omega arith))

@@ -1,6 +1,7 @@
 -- Fields as they are written: of the right shape, sound, and with the values that they were written from.
 use Rattle.std.proofs.Common.{◌≡◌, ℕ, suc, ◌+◌, ◌^◌, ◌<◌, ◌≤◌, List, [], ◌∷◌, map, length, get_or, ℤ, pos, negsuc, neg_ℤ, decimal, refl, ap, inl, inr, ⊎_elim, arith, rules}
-use Rattle.std.specs.List.{AllByRecursion}
+use Rattle.std.specs.List.{All}
+use Rattle.std.proofs.lemmas.List.Elements.{All-nil, All-cons, All-head, All-tail}
 use Rattle.std.proofs.lemmas.Str.Parse.{IsNumeralModel, numerals_by_weight}
 use Rattle.std.proofs.lemmas.Fmt.{decimal_nonempty, decimal_digit, first_decimal, length-decimal-le, digits_decimal, digits_value-decimal}
 use Rattle.std.proofs.lemmas.Bool.{cases_lt}
@@ -12,8 +13,11 @@ use Rattle.words.specs.Walk.{width}
 use Rattle.words.specs.Written.{field_of, fields_of, Digits18}
 use Rattle.words.proofs.Naming.{length_rest}
 
-own : IsNumeralModel (AllByRecursion Digit) decimal_value
-own = numerals_by_weight _ (search rules) decimal_value (search rules)
+own : IsNumeralModel (All Digit) decimal_value
+own =
+    numerals_by_weight (All Digit)
+    (record { empty = All-nil Digit; parts = λ c cs a. (All-head Digit c cs a, All-tail Digit c cs a); more = All-cons Digit })
+    decimal_value (search rules)
 
 -- 18 digits fit 64 bits
 wide : (n : ℕ) → n < 10 ^ 18 → n < 2 ^ 64
@@ -55,37 +59,39 @@ pub width_of : (name : List ℕ) (z : ℤ) → Digits18 z → width (field_of na
 width_of name (pos n) h = let f = few n h in omega arith
 width_of name (negsuc n) h = let f = few (suc n) h in omega arith
 
-pub all_good : (ns : List (List ℕ)) (zs : List ℤ) → AllByRecursion Word ns → AllByRecursion Digits18 zs → AllByRecursion GoodField (fields_of ns zs)
-all_good [] zs w h = tt
-all_good (n ∷ ns) [] w h = tt
-all_good (n ∷ ns) (z ∷ zs) w h = (good n z w.0 h.0, all_good ns zs w.1 h.1)
+pub all_good : (ns : List (List ℕ)) (zs : List ℤ) → All Word ns → All Digits18 zs → All GoodField (fields_of ns zs)
+all_good [] zs w h = All-nil GoodField
+all_good (n ∷ ns) [] w h = All-nil GoodField
+all_good (n ∷ ns) (z ∷ zs) w h =
+    All-cons GoodField (field_of n z) (fields_of ns zs) (good n z (All-head Word n ns w) (All-head Digits18 z zs h)) (all_good ns zs (All-tail Word n ns w) (All-tail Digits18 z zs h))
 
-pub all_sound_of : (ns : List (List ℕ)) (zs : List ℤ) → AllByRecursion Digits18 zs → AllByRecursion Sound (fields_of ns zs)
-all_sound_of [] zs h = tt
-all_sound_of (n ∷ ns) [] h = tt
-all_sound_of (n ∷ ns) (z ∷ zs) h = (sound_of n z h.0, all_sound_of ns zs h.1)
+pub all_sound_of : (ns : List (List ℕ)) (zs : List ℤ) → All Digits18 zs → All Sound (fields_of ns zs)
+all_sound_of [] zs h = All-nil Sound
+all_sound_of (n ∷ ns) [] h = All-nil Sound
+all_sound_of (n ∷ ns) (z ∷ zs) h =
+    All-cons Sound (field_of n z) (fields_of ns zs) (sound_of n z (All-head Digits18 z zs h)) (all_sound_of ns zs (All-tail Digits18 z zs h))
 
 pub names_of_lem : (ns : List (List ℕ)) (zs : List ℤ) → length ns ≡ length zs → names_of (fields_of ns zs) ≡ ns
 names_of_lem [] zs l = refl
 names_of_lem (n ∷ ns) [] l = absurd (omega arith)
 names_of_lem (n ∷ ns) (z ∷ zs) l = let a = name_of_lem n z in let b = names_of_lem ns zs (omega arith) in λ i. a i ∷ b i
 
-pub values_of : (ns : List (List ℕ)) (zs : List ℤ) → length ns ≡ length zs → AllByRecursion Digits18 zs → map value (fields_of ns zs) ≡ zs
+pub values_of : (ns : List (List ℕ)) (zs : List ℤ) → length ns ≡ length zs → All Digits18 zs → map value (fields_of ns zs) ≡ zs
 values_of [] [] l h = refl
 values_of [] (z ∷ zs) l h = absurd (omega arith)
 values_of (n ∷ ns) [] l h = absurd (omega arith)
-values_of (n ∷ ns) (z ∷ zs) l h = let a = value_of n z h.0 in let b = values_of ns zs (omega arith) h.1 in λ i. a i ∷ b i
+values_of (n ∷ ns) (z ∷ zs) l h = let a = value_of n z (All-head Digits18 z zs h) in let b = values_of ns zs (omega arith) (All-tail Digits18 z zs h) in λ i. a i ∷ b i
 
 -- how long fields with these names can be
 abbrev pub room : List (List ℕ) → ℕ
 room [] = 1
 room (n ∷ ns) = length n + 23 + room ns
 
-pub within : (ns : List (List ℕ)) (zs : List ℤ) → AllByRecursion Digits18 zs → length (rest (fields_of ns zs)) ≤ room ns
+pub within : (ns : List (List ℕ)) (zs : List ℤ) → All Digits18 zs → length (rest (fields_of ns zs)) ≤ room ns
 within [] zs h = omega arith
 within (n ∷ ns) [] h = omega arith
 within (n ∷ ns) (z ∷ zs) h =
     let l = length_rest (field_of n z) (fields_of ns zs) in
-    let w = width_of n z h.0 in
-    let t = within ns zs h.1 in
+    let w = width_of n z (All-head Digits18 z zs h) in
+    let t = within ns zs (All-tail Digits18 z zs h) in
     omega arith

@@ -6,7 +6,7 @@
 --   Misfit ns head .. col  the fields have not just the names ns, in order; the fault is told at column col
 --   FirstUnsound .. col    a number is not written as it may be, and the first of these stands at column col
 use Rattle.std.specs.Prelude.{◌≡◌, ℕ, ◌+◌, ◌⊎◌, List, [], ◌∷◌, ◌++◌, map, length, Ok, Err, Result, ◌≢◌}
-use Rattle.std.specs.List.{AllByRecursion}
+use Rattle.std.specs.List.{All}
 use Rattle.brackets.specs.Grammar.{Field, text, IsForm}
 use Rattle.brackets.specs.Layer.{Brackets}
 use Rattle.words.specs.declared.form.Form.{Form}
@@ -44,14 +44,14 @@ Misfit ns head fields col = Wrong ns head fields col ⊎ Missing ns head fields 
 
 -- the numbers before that of f are sound and this one is not; it stands after `(name `, with its minus if it has one
 abbrev pub FirstUnsound : List ℕ → List Field → ℕ → Type 0
-FirstUnsound head fields col = (before : List Field) × (f : Field) × (later : List Field) × (fields ≡ before ++ (f ∷ later)) × AllByRecursion Sound before × (Sound f → ⊥) × (col ≡ bracket_at head before + length f.name + 2)
+FirstUnsound head fields col = (before : List Field) × (f : Field) × (later : List Field) × (fields ≡ before ++ (f ∷ later)) × All Sound before × (Sound f → ⊥) × (col ≡ bracket_at head before + length f.name + 2)
 
 abbrev pub OfForm : List ℕ → List Field → Result Form WordFault → Type 0
 OfForm head fields (Err (Bracket f)) = ⊥
 OfForm head fields (Err Head) = Unknown head
 OfForm head fields (Err (Misnamed c)) = (k : Kind) × (head ≡ head_text k) × Misfit (field_names k) head fields c
 OfForm head fields (Err (Malformed c)) = (k : Kind) × (head ≡ head_text k) × (names_of fields ≡ field_names k) × FirstUnsound head fields c
-OfForm head fields (Ok f) = (head ≡ head_text (kind_of f)) × (names_of fields ≡ field_names (kind_of f)) × AllByRecursion Sound fields × (map value fields ≡ numbers_of f)
+OfForm head fields (Ok f) = (head ≡ head_text (kind_of f)) × (names_of fields ≡ field_names (kind_of f)) × All Sound fields × (map value fields ≡ numbers_of f)
 
 -- the line has the right shape, and r is the answer to its head and fields
 abbrev pub Shaped : List ℕ → Result Form WordFault → Type 0

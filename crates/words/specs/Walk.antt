@@ -1,7 +1,7 @@
 -- What the private functions answer that walk over a line from field to field. Which lines are read, and as what, is defined in
 -- specs/Layer.antt without any of this. Places count from 0, columns from 1. Assumes nothing.
-use Rattle.std.specs.Prelude.{◌≡◌, ℕ, ◌+◌, ◌<◌, ◌≤◌, Bool, true, false, cond, List, [], ◌∷◌, ◌++◌, length, drop, ℤ, pos, neg_ℤ, Some, None, Ok, Err, Option, Result, ◌==◌, nat_lt, slice_index}
-use Rattle.std.specs.List.{AllByRecursion}
+use Rattle.std.specs.Prelude.{◌≡◌, ℕ, ◌+◌, Bool, true, cond, List, [], ◌∷◌, ◌++◌, length, drop, ℤ, pos, neg_ℤ, Some, None, Ok, Err, Option, Result, ◌==◌, nat_lt, slice_index}
+use Rattle.std.specs.List.{All}
 use Rattle.std.specs.Str.{bytes_eq}
 use Rattle.brackets.specs.Grammar.{Numeral, Field, GoodField, rest, IsForm}
 use Rattle.words.specs.Numbers.{decimal_value}
@@ -30,18 +30,6 @@ text_value v = cond (slice_index v 0 == 45) (neg_ℤ (pos (decimal_value (drop 1
 abbrev pub stops : ℕ → Bool
 stops b = cond (b == 32) true (b == 41)
 
--- r is the first place from `start` on where a word or a number ends
-pub record EndsAt (line : List ℕ) (start r : ℕ) : Type 0 where
-  pub low : start ≤ r
-  pub high : r ≤ length line
-  pub inner : (k : ℕ) → start ≤ k → k < r → stops (slice_index line k) ≡ false
-  pub here : r < length line → stops (slice_index line r) ≡ true
-
--- the bytes of a token
-abbrev pub token_text : Token → List ℕ
-token_text (Word text column) = text.now
-token_text (Number text column) = text.now
-
 -- the token is this word, or this number, at this column
 abbrev pub IsWord : Token → List ℕ → ℕ → Type 0
 IsWord (Word s c) w col = (s.now ≡ w) × (c ≡ col)
@@ -61,7 +49,7 @@ FieldAt line at f fs = GoodField f × (drop at line ≡ rest (f ∷ fs))
 
 -- at place `at` the line goes on with these fields and its last bracket
 abbrev pub FieldsAt : List ℕ → ℕ → List Field → Type 0
-FieldsAt line at fs = AllByRecursion GoodField fs × (drop at line ≡ rest fs)
+FieldsAt line at fs = All GoodField fs × (drop at line ≡ rest fs)
 
 -- the tokens of the field f at place `at`
 pub record Took (at : ℕ) (f : Field) (r : Tokens) : Type 0 where

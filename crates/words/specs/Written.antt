@@ -4,7 +4,7 @@
 --   Short f            each of its numbers has at most 18 digits
 --   ReadsBack line r   if the line is the text of such a form, r is that form
 use Rattle.std.specs.Prelude.{◌≡◌, ℕ, suc, ◌^◌, ◌<◌, List, [], ◌∷◌, ℤ, pos, negsuc, Ok, decimal, Result, unsigned_abs}
-use Rattle.std.specs.List.{AllByRecursion}
+use Rattle.std.specs.List.{All}
 use Rattle.brackets.specs.Grammar.{Field, text}
 use Rattle.words.specs.declared.form.Form.{Form}
 use Rattle.words.specs.declared.faults.WordFault.{WordFault}
@@ -30,7 +30,7 @@ abbrev pub Digits18 : ℤ → Type 0
 Digits18 z = unsigned_abs z < 10 ^ 18
 
 abbrev pub Short : Form → Type 0
-Short f = AllByRecursion Digits18 (numbers_of f)
+Short f = All Digits18 (numbers_of f)
 
 abbrev pub ReadsBack : List ℕ → Result Form WordFault → Type 0
 ReadsBack line r = (f : Form) → Short f → line ≡ form_text f → r ≡ Ok f

@@ -6,7 +6,7 @@ ghost use Rattle.words.specs.declared.faults.WordFault.TheVariants.{Bracket};
 use brackets::BracketFault;
 
 // A fault of layer 1, carried whole, or one of layer 2; columns count from 1.
-#[derive(Clone, Copy)]
+#[derive(Clone, Copy, Debug, PartialEq, Eq)]
 pub enum WordFault {
     Bracket(BracketFault),
     Head,
@@ -23,7 +23,7 @@ impl From<BracketFault> for WordFault {
 }
 
 // A refusal as it is answered.
-#[derive(Clone, Copy)]
+#[derive(Clone, Copy, Debug, PartialEq, Eq)]
 pub struct Told {
     pub layer: u8,
     pub number: u8,

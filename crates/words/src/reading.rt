@@ -1,6 +1,6 @@
 // From the bytes of a line to its form.
 ghost use Rattle.std.specs.Prelude.{◌≡◌, ℕ, ◌<◌, ◌≤◌, List, ◌∷◌, map, length, take, pos, if◌then◌else◌, Some, None, Ok, Err, Decides, MatchOption, MatchResult};
-ghost use Rattle.std.specs.List.{AllByRecursion};
+ghost use Rattle.std.specs.List.{All, before_first, position_from};
 ghost use Rattle.brackets.specs.Bytes.{Digit};
 ghost use Rattle.brackets.specs.Grammar.{Field};
 ghost use Rattle.brackets.specs.Layer.{Brackets};
@@ -9,7 +9,7 @@ ghost use Rattle.words.specs.Heads.{head_text, field_names, Unknown};
 ghost use Rattle.words.specs.Layer.{Reads, Once};
 ghost use Rattle.words.specs.Written.{ReadsBack, Answers};
 ghost use Rattle.words.specs.Numbers.{decimal_value};
-ghost use Rattle.words.specs.Walk.{NumberText, token_text, malformed, text_value, stops, EndsAt, FieldAt, Took, FieldsAt, HeadAt, one_named, all_named, field_value, first_malformed, one_read};
+ghost use Rattle.words.specs.Walk.{NumberText, malformed, text_value, stops, FieldAt, Took, FieldsAt, HeadAt, one_named, all_named, field_value, first_malformed, one_read};
 ghost use Rattle.words.specs.declared.faults.WordFault.TheVariants.{Head};
 
 use crate::faults::WordFault;
@@ -20,7 +20,7 @@ use entries::entry::Entry;
 // The value of at most 18 digits.
 fn magnitude(digits: &[u8]) -> i64
     requires few { length digits.now ≤ 18 }
-    requires all { AllByRecursion Digit digits.now }
+    requires all { All Digit digits.now }
     ensures value { result ≡ pos (decimal_value digits.now) }
     ensures bound { decimal_value digits.now < 1000000000000000000 }
 {
@@ -61,24 +61,19 @@ struct Tokens<'a> {
     next: usize,
 }
 
-// Whether a word or a number ends before this byte.
-fn ends(b: u8) -> bool
-    ensures { result ≡ stops b }
+// Where the first space or closing bracket stands, if there is one.
+fn first_stop(rest: &[u8]) -> Option<usize>
+    ensures { result ≡ position_from stops 0 rest.now }
 {
-    matches!(b as char, ' ' | ')')
+    rest.iter().position(|b| matches!(*b as char, ' ' | ')'))
 }
 
-// The place of the first space or closing bracket from `start` on.
-fn word_end(line: &[u8], start: usize) -> usize
-    requires { start ≤ length line.now }
-    ensures { EndsAt line.now start result }
+// What stands before the first space or closing bracket.
+fn word(rest: &[u8]) -> &[u8]
+    ensures { result.now ≡ before_first stops rest.now }
 {
-    for i in start..line.len() {
-        if ends(line[i]) {
-            return i;
-        }
-    }
-    line.len()
+    let len = first_stop(rest).unwrap_or(rest.len());
+    &rest[..len]
 }
 
 // The field at `at`, where the space before it stands.
@@ -87,12 +82,13 @@ fn field<'a>(line: &'a [u8], at: usize) -> Tokens<'a>
     requires some { (f : Field) × (fs : List Field) × FieldAt line.now at f fs }
     ensures { (f : Field) (fs : List Field) → FieldAt line.now at f fs → Took at f result }
 {
-    let gap = word_end(line, at + 2);
-    let end = word_end(line, gap + 1);
+    let name = word(&line[at + 2..]);
+    let after = at + 3 + name.len();
+    let number = word(&line[after..]);
     Tokens {
-        name: Token::Word(&line[at + 2..gap], (at + 3) as u8),
-        number: Token::Number(&line[gap + 1..end], (gap + 2) as u8),
-        next: end + 1,
+        name: Token::Word(name, (at + 3) as u8),
+        number: Token::Number(number, (after + 1) as u8),
+        next: after + number.len() + 1,
     }
 }
 
@@ -111,39 +107,22 @@ enum Kind {
     Show,
 }
 
-// Whether two words are the same.
-fn same(a: &[u8], b: &[u8]) -> bool
-    ensures { Decides result (a.now ≡ b.now) }
-{
-    a == b
-}
-
 // The kind of form that has this head.
 fn kind_of(head: &[u8]) -> Option<Kind>
     ensures { MatchOption result (Unknown head.now) (λ k. head.now ≡ head_text k) }
 {
-    if same(head, b"book") {
-        Some(Kind::Book)
-    } else if same(head, b"deposit") {
-        Some(Kind::Deposit)
-    } else if same(head, b"withdraw") {
-        Some(Kind::Withdraw)
-    } else if same(head, b"register") {
-        Some(Kind::Register)
-    } else if same(head, b"market") {
-        Some(Kind::Market)
-    } else if same(head, b"close") {
-        Some(Kind::Close)
-    } else if same(head, b"regulate") {
-        Some(Kind::Regulate)
-    } else if same(head, b"meter") {
-        Some(Kind::Meter)
-    } else if same(head, b"evaluate") {
-        Some(Kind::Evaluate)
-    } else if same(head, b"show") {
-        Some(Kind::Show)
-    } else {
-        None
+    match head {
+        b"book" => Some(Kind::Book),
+        b"deposit" => Some(Kind::Deposit),
+        b"withdraw" => Some(Kind::Withdraw),
+        b"register" => Some(Kind::Register),
+        b"market" => Some(Kind::Market),
+        b"close" => Some(Kind::Close),
+        b"regulate" => Some(Kind::Regulate),
+        b"meter" => Some(Kind::Meter),
+        b"evaluate" => Some(Kind::Evaluate),
+        b"show" => Some(Kind::Show),
+        _ => None,
     }
 }
 
@@ -178,7 +157,7 @@ fn named(line: &[u8], at: usize, name: &[u8]) -> Result<usize, u8>
     let tokens = field(line, at);
     match tokens.name {
         Token::Word(text, column) => {
-            if same(text, name) {
+            if text == name {
                 Ok(tokens.next)
             } else {
                 Err(column - 1)
@@ -213,10 +192,7 @@ fn value(line: &[u8], at: usize) -> Result<(i64, usize), u8>
 {
     let tokens = field(line, at);
     match tokens.number {
-        Token::Number(text, column) => match number(text) {
-            Some(z) => Ok((z, tokens.next)),
-            None => Err(column),
-        },
+        Token::Number(text, column) => Ok((number(text).ok_or(column)?, tokens.next)),
         Token::Word(_, column) => Err(column),
     }
 }
@@ -238,103 +214,59 @@ fn values(line: &[u8], start: usize, count: usize) -> Result<[i64; 8], u8>
     Ok(vs)
 }
 
-// The forms over hours, with these numbers.
-fn register(v: &[i64; 8]) -> Form
-    ensures kind { kind_of result ≡ Kind.Register }
-    ensures numbers { numbers_of result ≡ take 6 v.now }
-{
-    Form::Entry(Entry::Register {
-        day: v[0],
-        from: v[1],
-        to: v[2],
-        seller: v[3],
-        buyer: v[4],
-        kwh: v[5],
-    })
-}
-
-fn market(v: &[i64; 8]) -> Form
-    ensures kind { kind_of result ≡ Kind.Market }
-    ensures numbers { numbers_of result ≡ take 7 v.now }
-{
-    Form::Entry(Entry::Market {
-        day: v[0],
-        from: v[1],
-        to: v[2],
-        seller: v[3],
-        buyer: v[4],
-        kwh: v[5],
-        price: v[6],
-    })
-}
-
-fn regulate(v: &[i64; 8]) -> Form
-    ensures kind { kind_of result ≡ Kind.Regulate }
-    ensures numbers { numbers_of result ≡ take 5 v.now }
-{
-    Form::Entry(Entry::Regulate {
-        day: v[0],
-        hour: v[1],
-        party: v[2],
-        kwh: v[3],
-        price: v[4],
-    })
-}
-
-fn meter(v: &[i64; 8]) -> Form
-    ensures kind { kind_of result ≡ Kind.Meter }
-    ensures numbers { numbers_of result ≡ take 5 v.now }
-{
-    Form::Entry(Entry::Meter {
-        day: v[0],
-        from: v[1],
-        to: v[2],
-        party: v[3],
-        kwh: v[4],
-    })
-}
-
 // The form of this kind with these numbers.
 fn form_of(kind: Kind, v: &[i64; 8]) -> Form
     ensures kind { kind_of result ≡ kind }
     ensures numbers { numbers_of result ≡ take (length (field_names kind)) v.now }
 {
-    match kind {
-        Kind::Book => Form::Book {
-            parties: v[0],
-            days: v[1],
-            pricing: v[2],
-            default: v[3],
-            sharing: v[4],
+    match (kind, *v) {
+        (Kind::Book, [parties, days, pricing, default, sharing, ..]) => Form::Book {
+            parties,
+            days,
+            pricing,
+            default,
+            sharing,
         },
-        Kind::Deposit => Form::Entry(Entry::Deposit {
-            party: v[0],
-            haler: v[1],
+        (Kind::Deposit, [party, haler, ..]) => Form::Entry(Entry::Deposit { party, haler }),
+        (Kind::Withdraw, [party, haler, ..]) => Form::Entry(Entry::Withdraw { party, haler }),
+        (Kind::Register, [day, from, to, seller, buyer, kwh, ..]) => {
+            Form::Entry(Entry::Register {
+                day,
+                from,
+                to,
+                seller,
+                buyer,
+                kwh,
+            })
+        }
+        (Kind::Market, [day, from, to, seller, buyer, kwh, price, ..]) => {
+            Form::Entry(Entry::Market {
+                day,
+                from,
+                to,
+                seller,
+                buyer,
+                kwh,
+                price,
+            })
+        }
+        (Kind::Close, [day, ..]) => Form::Entry(Entry::Close { day }),
+        (Kind::Regulate, [day, hour, party, kwh, price, ..]) => Form::Entry(Entry::Regulate {
+            day,
+            hour,
+            party,
+            kwh,
+            price,
         }),
-        Kind::Withdraw => Form::Entry(Entry::Withdraw {
-            party: v[0],
-            haler: v[1],
+        (Kind::Meter, [day, from, to, party, kwh, ..]) => Form::Entry(Entry::Meter {
+            day,
+            from,
+            to,
+            party,
+            kwh,
         }),
-        Kind::Register => register(v),
-        Kind::Market => market(v),
-        Kind::Close => Form::Entry(Entry::Close { day: v[0] }),
-        Kind::Regulate => regulate(v),
-        Kind::Meter => meter(v),
-        Kind::Evaluate => Form::Entry(Entry::Evaluate {
-            day: v[0],
-            stage: v[1],
-        }),
-        Kind::Show => Form::Show { party: v[0] },
-    }
-}
-
-// The kind of form that has this token as its head.
-fn kind_at(head: Token) -> Option<Kind>
-    ensures { MatchOption result (Unknown (token_text head.entry)) (λ k. token_text head.entry ≡ head_text k) }
-{
-    match head {
-        Token::Word(text, _) => kind_of(text),
-        Token::Number(text, _) => kind_of(text),
+        (Kind::Evaluate, [day, stage, ..]) => Form::Entry(Entry::Evaluate { day, stage }),
+        (Kind::Show, [party, ..]) => Form::Show { party },
     }
 }
 
@@ -351,11 +283,9 @@ fn head(line: &[u8]) -> Option<(Kind, usize)>
     requires { Brackets line.now (Ok tt) }
     ensures { MatchOption result (Answers line.now (Err Head)) (λ p. HeadAt line.now p.0 p.1) }
 {
-    let end = word_end(line, 1);
-    match kind_at(Token::Word(&line[1..end], 2)) {
-        Some(kind) => Some((kind, end)),
-        None => None,
-    }
+    let name = word(&line[1..]);
+    let kind = kind_of(name)?;
+    Some((kind, 1 + name.len()))
 }
 
 // The form of this kind whose fields begin at `start`.
@@ -365,13 +295,9 @@ fn fields(line: &[u8], kind: Kind, start: usize) -> Result<Form, WordFault>
     ensures { Answers line.now result }
 {
     let expected = names(kind);
-    if let Err(column) = all_named(line, start, expected) {
-        return Err(WordFault::Field { column });
-    }
-    match values(line, start, expected.len()) {
-        Ok(vs) => Ok(form_of(kind, &vs)),
-        Err(column) => Err(WordFault::Number { column }),
-    }
+    all_named(line, start, expected).map_err(|column| WordFault::Field { column })?;
+    let vs = values(line, start, expected.len()).map_err(|column| WordFault::Number { column })?;
+    Ok(form_of(kind, &vs))
 }
 
 // The form on the line; else the first of the six checks that it fails, with its column.
@@ -381,8 +307,6 @@ pub fn read(line: &[u8]) -> Result<Form, WordFault>
     ensures back { ReadsBack line.now result }
 {
     shaped(line)?;
-    match head(line) {
-        Some((kind, start)) => fields(line, kind, start),
-        None => Err(WordFault::Head),
-    }
+    let (kind, start) = head(line).ok_or(WordFault::Head)?;
+    fields(line, kind, start)
 }

@@ -13,11 +13,11 @@ use Rattle.brackets.proofs.scan.Goals as goal
 once : (line : List ℕ) (col : ℕ) → Stuck line col → Stuck line col × Only line col
 once line col h = (h, only line col h)
 
-pub returns-in-None : goal.returns-in-None
-returns-in-None c =
+pub returns-in_default : goal.returns-in_default
+returns-in_default c =
     once c.args.line.now _
     (stuck_at c.args.line.now c.loop-i.i c.loop-i.s (omega arith) c.loop-i.invariant
-    (run_more c.args.line.now c.loop-i.i c.loop-i.s (omega arith) c.loop-i.invariant ∙ sym c.in-None.ensures))
+    (run_more c.args.line.now c.loop-i.i c.loop-i.s (omega arith) c.loop-i.invariant ∙ sym c.advance.ensures ∙ c.in_default.is))
 
 pub loop-i-preserved : goal.loop-i-preserved
 loop-i-preserved c =

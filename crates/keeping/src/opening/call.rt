@@ -1,11 +1,10 @@
 // The line call: one line in, its answer out (docs/RULES.md, "The line call").
-ghost use Rattle.std.specs.Prelude.{◌≡◌, ◌<◌, length};
-ghost use Rattle.answers.specs.Writing.{Answerable};
+ghost use Rattle.std.specs.Prelude.{◌≡◌};
 ghost use Rattle.book.specs.Books.{held};
-ghost use Rattle.keeping.specs.Told.{refused_as};
 ghost use Rattle.keeping.specs.View.{rules_of, view};
 ghost use Rattle.keeping.specs.Entered.{after_in, answer_in, book_after, book_answer, replied, stated};
 ghost use Rattle.keeping.specs.Answered.{Answered, Entered, LineCall};
+ghost use Rattle.keeping.specs.Cutting.{answered_cut};
 
 use super::{asked, open_on};
 use crate::keeper::{Journal, Stage};
@@ -17,21 +16,10 @@ use book::statement::Statement;
 use entries::entry::Sizes;
 use entries::refusal::Refusal as BookRefusal;
 use entries::reply::{Receipt, Reply};
+use journal::Answering;
 use rules::choice::{ChosenPricing, ChosenSharing};
 use std::mem;
 use words::Form;
-
-// The answer that tells a refusal.
-fn refused(refusal: Refusal) -> Answer
-    ensures { result ≡ refused_as refusal }
-{
-    let told = refusal.told();
-    Answer::Refused {
-        layer: told.layer,
-        number: told.number,
-        place: told.place,
-    }
-}
 
 // What the book's reply is answered; of an evaluation, the payments of so many parties.
 fn replied(parties: u8, reply: Reply) -> Result<Answer, Refusal>
@@ -106,37 +94,21 @@ impl Journal<'_> {
         self.answer(&form)
     }
 
-    // What a line that is not empty is answered.
-    fn answer_to(&mut self, line: &[u8]) -> Answer
-        ensures { Answered (view self.old) line.now result (view self.new) }
-    {
-        match self.enter(line) {
-            Ok(answer) => answer,
-            Err(refusal) => refused(refusal),
-        }
-    }
-
-    // Answers a line that is not empty.
-    fn write_answer(&mut self, out: &mut [u8], number: i64, line: &[u8]) -> Option<usize>
-        requires answerable { Answerable (length out.old) number }
-        requires some { 0 < length line.now }
-        ensures { LineCall (view self.old) out.old number line.now result (view self.new) out.new }
-    {
-        let answer = self.answer_to(line);
-        answers::write(out, number, &answer)
-    }
-
-    // The answer to a line, written at the buffer's start, and its length; an empty line gets none. None, with nothing written or changed,
-    // where the buffer is under 4,096 bytes or the line's number is outside 1 to 999,999,999.
+    // The line call.
     pub fn answer_line(&mut self, out: &mut [u8], number: i64, line: &[u8]) -> Option<usize>
         ensures { LineCall (view self.old) out.old number line.now result (view self.new) out.new }
     {
-        if !answers::answerable(out.len(), number) {
-            return None;
-        }
-        if line.is_empty() {
-            return Some(0);
-        }
-        self.write_answer(out, number, line)
+        Answering::answer_line(self, out, number, line)
+    }
+}
+
+impl Answering for Journal<'_> {
+    ghost answered = { λ j line a k. Answered (view j) line a (view k) };
+
+    ghost cut = { λ j k line a. answered_cut (view j) (view k) line a };
+
+    fn answer_to(&mut self, line: &[u8]) -> Answer {
+        self.enter(line)
+            .unwrap_or_else(|refusal| journal::refused(refusal.told()))
     }
 }

@@ -1,5 +1,6 @@
-use Rattle.std.proofs.Common.{◌≡◌, ℕ, ◌<◌, ◌≤◌, length, get_or, pos, nat_abs}
+use Rattle.std.proofs.Common.{◌≡◌, take}
+use Rattle.sharing.specs.Limits.{magnitudes}
 use Rattle.sharing.proofs.magnitudes.Given as goal
 
-abbrev pub invariant-loop-i : goal.invariant-loop-i
-invariant-loop-i l = ((k : ℕ) → k < l.i → get_or l.kwh k 0 ≡ nat_abs (get_or l.weights k (pos 0))) × ((k : ℕ) → l.i ≤ k → get_or l.kwh k 0 ≡ 0) × (length l.kwh ≡ 20)
+abbrev pub invariant-loop-weight : goal.invariant-loop-weight
+invariant-loop-weight l = l.kwh.items ≡ magnitudes (take l.weight-index l.weights)

@@ -1,21 +1,16 @@
-use Rattle.std.proofs.Common.{◌+◌, ap, arith}
-use Rattle.std.proofs.lemmas.List.{take_all}
+use Rattle.std.proofs.Common.{◌≡◌, ◌≤◌, sym, refl, ◌∙◌, arith, rules}
+use Rattle.std.specs.List.{sum}
+use Rattle.std.proofs.lemmas.List.Recursion.{is_sum_by}
 use Rattle.units.specs.Sums.{sum_n}
-use Rattle.units.proofs.Summing.{sum_n_more, sum_n-take}
 use Rattle.sharing.proofs.sum.Goals as goal
 
-pub overflow_add-sum : goal.overflow_add-sum
-overflow_add-sum c =
-    let s = sum_n_more c.args.numbers.now c.loop-x.x-index c.loop-x-test.true in
-    let t = sum_n-take c.args.numbers.now (c.loop-x.x-index + 1) in
-    omega arith
-
-pub loop-x-preserved : goal.loop-x-preserved
-loop-x-preserved c =
-    let s = sum_n_more c.args.numbers.now c.loop-x.x-index c.loop-x-test.true in
-    omega arith
+pub sum-requires-clause-fits : goal.sum-requires-clause-fits
+sum-requires-clause-fits c =
+    let e = is_sum_by sum_n (λ x. x) refl (λ _ _. refl) c.args.numbers.now in
+    let h : sum c.args.numbers.now ≤ 600000000000 = omega arith in
+    search rules
 
 pub returns : goal.returns
 returns c =
-    let a = ap sum_n (take_all c.loop-x.x-index c.args.numbers.now c.loop-x-test.false) in
-    omega arith
+    let e : c.sum.result ≡ sum c.args.numbers.now = search rules in
+    e ∙ sym (is_sum_by sum_n (λ x. x) refl (λ _ _. refl) c.args.numbers.now)

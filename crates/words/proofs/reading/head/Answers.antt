@@ -1,18 +1,21 @@
-use Rattle.std.proofs.Common.{Err, sym, ◌∙◌}
+use Rattle.std.proofs.Common.{◌≡◌, ◌+◌, length, Err, sym, ap, ◌∙◌, subst}
+use Rattle.std.specs.Option.{MatchOption}
 use Rattle.words.specs.declared.faults.WordFault.TheVariants.{Head}
+use Rattle.words.specs.Walk.{HeadAt}
+use Rattle.words.specs.Written.{Answers}
 use Rattle.words.proofs.Once.{answers}
-use Rattle.words.proofs.Joining.{end_is, head_is}
+use Rattle.words.proofs.Joining.{head_is}
 use Rattle.words.proofs.reading.head.Goals as goal
 
-pub returns-in-Some : goal.returns-in-Some
-returns-in-Some c head fields h =
-    let e = end_is c.args.line.now head fields c.word_end-end.result h c.word_end-end.ensures in
-    (sym (head_is c.args.line.now head fields c.word_end-end.result h e) ∙ c.in-Some.ensures, e)
+pub returns : goal.returns
+returns c head fields h =
+    let name : c.word-name.result.now ≡ head = c.word-name.ensures ∙ head_is c.args.line.now head fields h in
+    (sym name ∙ c.in_ok-kind.ensures, ap (λ w. 1 + length w) name)
 
-pub returns-in-None : goal.returns-in-None
-returns-in-None c = answers c.args.line.now (Err Head) (
-  c.requires,
-  λ head fields h k is.
-      let e = end_is c.args.line.now head fields c.word_end-end.result h c.word_end-end.ensures in
-      c.in-None.ensures k (head_is c.args.line.now head fields c.word_end-end.result h e ∙ is),
-)
+pub returns-in_err-kind : goal.returns-in_err-kind
+returns-in_err-kind c =
+    let unknown : Answers c.args.line.now (Err Head) = answers c.args.line.now (Err Head) (
+      c.requires,
+      λ head fields h k is. c.in_err-kind.ensures k (c.word-name.ensures ∙ head_is c.args.line.now head fields h ∙ is),
+    ) in
+    subst (λ r. MatchOption r (Answers c.args.line.now (Err Head)) (λ p. HeadAt c.args.line.now p.0 p.1)) (sym c.from_residual.ensures) unknown

@@ -1,5 +1,7 @@
-use Rattle.std.proofs.Common.{refl, rules}
+use Rattle.std.proofs.Common.{sym, ◌∙◌, rules}
+use Rattle.std.proofs.lemmas.Slice.Eq.{slice_eq-Decides}
 use Rattle.std.proofs.lemmas.Bool.{false≢true}
+use Rattle.std.proofs.lemmas.Bool.Decides.{Decides-eqb}
 use Rattle.words.proofs.Walking.{inside, at_last, at_field, hit, miss, name_column, never}
 use Rattle.words.proofs.reading.named.Goals as goal
 
@@ -16,13 +18,13 @@ pub field-tokens-requires : goal.field-tokens-requires
 field-tokens-requires c =
     record { short = c.requires.short; some = at_field c.args.line.now c.args.at c.requires.some.0 c.if-line-at-eq41.false c.requires.some.1 }
 
-pub returns-then-same : goal.returns-then-same
-returns-then-same c fs h =
-    hit c.args.line.now c.args.at c.args.name.now c.field-tokens.result _ _ fs c.if-line-at-eq41.false c.field-tokens.ensures c.in-Word.is (c.if-same.ensures.0 refl) h
+pub returns-then-eq : goal.returns-then-eq
+returns-then-eq c fs h =
+    hit c.args.line.now c.args.at c.args.name.now c.field-tokens.result _ _ fs c.if-line-at-eq41.false c.field-tokens.ensures c.in-Word.is ((slice_eq-Decides Decides-eqb c.in-Word.text.now c.args.name.now c.eq.result c.eq.ensures).0 c.if-eq.true) h
 
-pub returns-else-same : goal.returns-else-same
-returns-else-same c fs h =
-    miss c.args.line.now c.args.at c.args.name.now c.field-tokens.result _ _ fs c.if-line-at-eq41.false c.field-tokens.ensures c.in-Word.is (λ e. false≢true (c.if-same.ensures.1 e)) h
+pub returns-else-eq : goal.returns-else-eq
+returns-else-eq c fs h =
+    miss c.args.line.now c.args.at c.args.name.now c.field-tokens.result _ _ fs c.if-line-at-eq41.false c.field-tokens.ensures c.in-Word.is (λ e. false≢true (sym c.if-eq.false ∙ (slice_eq-Decides Decides-eqb c.in-Word.text.now c.args.name.now c.eq.result c.eq.ensures).1 e)) h
 
 pub returns-in-Number : goal.returns-in-Number
 returns-in-Number c fs h =

@@ -1,27 +1,19 @@
-use Rattle.std.proofs.Common.{ℕ, ◌+◌, List, [], length, take, pos, Some, None, subst, rules}
-use Rattle.journal.specs.Answered.{LineCall}
-use Rattle.journal.specs.Lines.{kept, Holds, Outcome}
-use Rattle.journal.proofs.Running.{called_outcome, called_filled, silent_outcome, silent_filled, ran-whole}
+use Rattle.std.proofs.Common.{pos, subst, take, rules}
+use Rattle.journal.specs.Calling.{LineCall}
+use Rattle.journal.proofs.Running.{called_outcome, ran_whole}
 use Rattle.journal.proofs.input.Input.answer.Goals as goal
 
-pub returns-in-Some : goal.returns-in-Some
-returns-in-Some c =
-    let k : LineCall c.args.out.now (pos c.args.self.now.number) (kept c.args.self.now.line) (Some c.in-Some.len) c.answer_line.new.out = search rules in
-    let o : (lines : List (List ℕ)) (rest : List ℕ) → Holds c.args.self.now lines rest → Outcome (length lines + 1) rest (take c.in-Some.len c.answer_line.new.out) =
-    λ lines rest h. called_outcome c.args.out.now c.answer_line.new.out c.args.self.now.number c.in-Some.len lines rest h.numbered (subst (λ l. LineCall c.args.out.now (pos c.args.self.now.number) l (Some c.in-Some.len) c.answer_line.new.out) h.front k) in
-    record {
-      outcome = o;
-      whole = λ input output r. ran-whole c.args.self.now (take c.in-Some.len c.answer_line.new.out) input output o r;
-      filled = called_filled c.args.out.now (kept c.args.self.now.line) c.answer_line.new.out (pos c.args.self.now.number) c.in-Some.len k;
-    }
+pub returns-clause-outcome : goal.returns-clause-outcome
+returns-clause-outcome g c =
+    let A = g.J.Answering.answered in
+    let j = c.args.self.now.journal in
+    let k = c.answer_line.new.self in
+    let d = c.args.out.now in
+    let e = c.answer_line.new.out in
+    let m = c.args.self.now.number in
+    let call : LineCall A j d (pos m) c.args.self.now.line.items c.answer_line.result k e = search rules in
+    λ lines rest h. rw c.unwrap_or.ensures (called_outcome A g.met.J.Answering.cut j k d e m c.answer_line.result lines rest c.requires h.numbered (subst (λ l. LineCall A j d (pos m) l c.answer_line.result k e) h.front call))
 
-pub returns-in-None : goal.returns-in-None
-returns-in-None c =
-    let k : LineCall c.args.out.now (pos c.args.self.now.number) (kept c.args.self.now.line) None c.answer_line.new.out = search rules in
-    let o : (lines : List (List ℕ)) (rest : List ℕ) → Holds c.args.self.now lines rest → Outcome (length lines + 1) rest [] =
-    λ lines rest h. silent_outcome c.args.out.now c.answer_line.new.out (kept c.args.self.now.line) c.args.self.now.number lines rest c.requires h.numbered k in
-    record {
-      outcome = o;
-      whole = λ input output r. ran-whole c.args.self.now [] input output o r;
-      filled = silent_filled c.args.out.now (kept c.args.self.now.line) c.answer_line.new.out (pos c.args.self.now.number) k;
-    }
+pub returns-clause-whole : goal.returns-clause-whole
+returns-clause-whole g c =
+    λ j input output r. ran_whole g.J.Answering.answered j c.answer_line.new.self c.args.self.now (take c.unwrap_or.result c.answer_line.new.out) input output (returns-clause-outcome g c) r

@@ -1,4 +1,0 @@
-use Rattle.answers.proofs.writer.Writer.+decimal.Given as goal
-
-abbrev pub decreases-decimal : goal.decreases-decimal
-decreases-decimal l = l.n

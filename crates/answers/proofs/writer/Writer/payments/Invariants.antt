@@ -1,7 +1,0 @@
-use Rattle.std.proofs.Common.{◌+◌, ◌*◌, ◌≤◌, take}
-use Rattle.answers.specs.Texts.{pay_lines}
-use Rattle.answers.specs.Writing.{Adds}
-use Rattle.answers.proofs.writer.Writer.payments.Given as goal
-
-abbrev pub invariant-loop-i : goal.invariant-loop-i
-invariant-loop-i l = Adds (pay_lines l.line 1 (take l.i l.payments)) l.initial.self l.self × (l.self.len ≤ l.initial.self.len + 130 * l.i)

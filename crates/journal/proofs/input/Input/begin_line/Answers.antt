@@ -1,8 +1,0 @@
-use Rattle.std.proofs.Common.{[], ◌∷◌, refl, arith, length-append}
-use Rattle.journal.proofs.input.Input.begin_line.Goals as goal
-
-pub returns-then-self-lt-PAST_LAST : goal.returns-then-self-lt-PAST_LAST
-returns-then-self-lt-PAST_LAST c = λ lines rest h. record { front = refl; numbered = omega (arith, length-append lines (rest ∷ [])) }
-
-pub returns-else-self-lt-PAST_LAST : goal.returns-else-self-lt-PAST_LAST
-returns-else-self-lt-PAST_LAST c = λ lines rest h. record { front = refl; numbered = omega (arith, length-append lines (rest ∷ [])) }
