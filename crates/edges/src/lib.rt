@@ -47,7 +47,8 @@ mod tests {
         assert_eq!(rt; units::nearest(-5, 2), Some(-3));
         assert_eq!(rt; units::nearest(10, 3), Some(3));
         assert_eq!(rt; units::nearest(i64::MIN, 1), Some(i64::MIN));
-        assert_eq!(rt; units::nearest(i64::MAX, u64::MAX), Some(1));
+        assert_eq!(rt; units::nearest(i64::MAX, u64::MAX), Some(0));
+        assert_eq!(rt; units::nearest(i64::MIN, u64::MAX), Some(-1));
         assert_eq!(rt; units::nearest(1, 0), None);
     }
 
