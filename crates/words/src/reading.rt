@@ -17,7 +17,7 @@ use crate::form::Form;
 use brackets::brackets;
 use entries::entry::Entry;
 
-// The value of at most 18 digits.
+// The value of at most 18 digits. A loop, since the closure of a `fold` would not know that the value so far is short.
 fn magnitude(digits: &[u8]) -> i64
     requires few { length digits.now ≤ 18 }
     requires all { All Digit digits.now }
@@ -206,10 +206,8 @@ fn values(line: &[u8], start: usize, count: usize) -> Result<[i64; 8], u8>
 {
     let mut vs = [0i64; 8];
     let mut at = start;
-    for i in 0..count {
-        let (z, next) = value(line, at)?;
-        vs[i] = z;
-        at = next;
+    for v in &mut vs[..count] {
+        (*v, at) = value(line, at)?;
     }
     Ok(vs)
 }
@@ -270,14 +268,6 @@ fn form_of(kind: Kind, v: &[i64; 8]) -> Form
     }
 }
 
-// Whether the line has the shape of a form; a bracket fault is carried on whole.
-fn shaped(line: &[u8]) -> Result<(), WordFault>
-    ensures { MatchResult result (λ _. Brackets line.now (Ok tt)) (λ f. Answers line.now (Err f)) }
-{
-    brackets(line)?;
-    Ok(())
-}
-
 // The kind of the form on the line and the place after its head, unless the head is unknown.
 fn head(line: &[u8]) -> Option<(Kind, usize)>
     requires { Brackets line.now (Ok tt) }
@@ -306,7 +296,7 @@ pub fn read(line: &[u8]) -> Result<Form, WordFault>
     ensures once { Once line.now result }
     ensures back { ReadsBack line.now result }
 {
-    shaped(line)?;
+    brackets(line)?;
     let (kind, start) = head(line).ok_or(WordFault::Head)?;
     fields(line, kind, start)
 }

@@ -4,5 +4,5 @@ use Rattle.words.specs.Walk.{FieldsAt}
 use Rattle.words.proofs.Numbering.{Read}
 use Rattle.words.proofs.reading.values.Given as goal
 
-abbrev pub invariant-loop-i : goal.invariant-loop-i
-invariant-loop-i l = (length l.vs ≡ 8) × ((fs : List Field) → FieldsAt l.line l.initial.at fs → length fs ≡ l.count → Read l.line fs l.initial.at l.count l.i l.at l.vs)
+abbrev pub invariant-loop-v : goal.invariant-loop-v
+invariant-loop-v l = (length l.v-items ≡ l.count) × ((fs : List Field) → FieldsAt l.line l.initial.at fs → length fs ≡ l.count → Read l.line fs l.initial.at l.count l.v-index l.at l.v-items)
