@@ -1,18 +1,12 @@
-use Rattle.std.proofs.Common.{sym, ◌∙◌, rules}
+use Rattle.std.proofs.Common.{sym, ◌∙◌}
 use Rattle.std.proofs.lemmas.Slice.Eq.{slice_eq-Decides}
 use Rattle.std.proofs.lemmas.Bool.{false≢true}
 use Rattle.std.proofs.lemmas.Bool.Decides.{Decides-eqb}
-use Rattle.words.proofs.Walking.{inside, at_last, at_field, hit, miss, name_column, never}
+use Rattle.words.proofs.Walking.{inside, at_field, hit, miss, name_column, never}
 use Rattle.words.proofs.reading.named.Goals as goal
 
 pub bounds-line-at : goal.bounds-line-at
 bounds-line-at c = inside c.args.line.now c.args.at c.requires.some.0 c.requires.some.1
-
-pub overflow_add-result : goal.overflow_add-result
-overflow_add-result c = let i = inside c.args.line.now c.args.at c.requires.some.0 c.requires.some.1 in search rules
-
-pub returns-then-line-at-eq41 : goal.returns-then-line-at-eq41
-returns-then-line-at-eq41 c fs h = at_last c.args.line.now c.args.at c.args.name.now fs c.if-line-at-eq41.true h
 
 pub field-tokens-requires : goal.field-tokens-requires
 field-tokens-requires c =
@@ -29,9 +23,6 @@ returns-else-eq c fs h =
 pub returns-in-Number : goal.returns-in-Number
 returns-in-Number c fs h =
     never c.args.line.now c.args.at c.field-tokens.result _ _ fs c.if-line-at-eq41.false c.field-tokens.ensures c.in-Number.is h
-
-pub overflow_cast-result : goal.overflow_cast-result
-overflow_cast-result c = let i = inside c.args.line.now c.args.at c.requires.some.0 c.requires.some.1 in search rules
 
 pub overflow_sub-result : goal.overflow_sub-result
 overflow_sub-result c =
