@@ -49,20 +49,20 @@ returns-in_err-map_err c =
     let named : Mapped c.all_named.result Misnamed c.map_err.result = search rules in
     let m = mapped_err c.all_named.result Misnamed c.map_err.result c.in_err-map_err.field-0.0 named c.in_err-map_err.was in
     let e : c.from_residual.result ≡ Err (Misnamed m.0) = p.1 ∙ ap Err (p.2 ∙ m.2) in
-    subst (Answers c.args.line.now) (sym e) (answers c.args.line.now (Err (Misnamed m.0)) (
+    subst (Answers c.args.line.bytes.now) (sym e) (answers c.args.line.bytes.now (Err (Misnamed m.0)) (
       c.requires.shaped,
       λ head fields h.
           let q = c.requires.headed head fields h in
-          (c.args.kind, q.0, misfit (field_names c.args.kind) head fields m.0 (told _ _ _ fields _ _ c.names-expected.ensures q.1 (sym m.1 ∙ c.all_named.ensures fields (fields_at c.args.line.now head fields c.args.start h q.1)))),
+          (c.args.kind, q.0, misfit (field_names c.args.kind) head fields m.0 (told _ _ _ fields _ _ c.names-expected.ensures q.1 (sym m.1 ∙ c.all_named.ensures fields (fields_at c.args.line.bytes.now head fields c.args.start h q.1)))),
     ))
 
 pub values-requires-clause-some : goal.values-requires-clause-some
 values-requires-clause-some c =
     let b = c.requires.shaped in
-    let f = fields_at c.args.line.now b.2.0 b.2.1 c.args.start b.2.2 (c.requires.headed b.2.0 b.2.1 b.2.2).1 in
+    let f = fields_at c.args.line.bytes.now b.2.0 b.2.1 c.args.start b.2.2 (c.requires.headed b.2.0 b.2.1 b.2.2).1 in
     let named : Mapped c.all_named.result Misnamed c.map_err.result = search rules in
     let ok = mapped_ok c.all_named.result Misnamed c.map_err.result c.in_ok-map_err.field-0 named c.in_ok-map_err.was in
-    (b.2.1, f, (right c.args.line.now c.names-expected.result.now c.args.kind _ _ c.args.start c.names-expected.ensures c.all_named.ensures ok b.2.1 f).1)
+    (b.2.1, f, (right c.args.line.bytes.now c.names-expected.result.now c.args.kind _ _ c.args.start c.names-expected.ensures c.all_named.ensures ok b.2.1 f).1)
 
 pub returns-in_err-vs : goal.returns-in_err-vs
 returns-in_err-vs c =
@@ -72,12 +72,12 @@ returns-in_err-vs c =
     let read : Mapped c.values.result Malformed c.map_err-2.result = search rules in
     let m = mapped_err c.values.result Malformed c.map_err-2.result c.in_err-vs.field-0.0 read c.in_err-vs.was in
     let e : c.from_residual-in_err-vs.result ≡ Err (Malformed m.0) = p.1 ∙ ap Err (p.2 ∙ m.2) in
-    subst (Answers c.args.line.now) (sym e) (answers c.args.line.now (Err (Malformed m.0)) (
+    subst (Answers c.args.line.bytes.now) (sym e) (answers c.args.line.bytes.now (Err (Malformed m.0)) (
       c.requires.shaped,
       λ head fields h.
           let q = c.requires.headed head fields h in
-          let f = fields_at c.args.line.now head fields c.args.start h q.1 in
-          let n = right c.args.line.now c.names-expected.result.now c.args.kind _ _ c.args.start c.names-expected.ensures c.all_named.ensures ok fields f in
+          let f = fields_at c.args.line.bytes.now head fields c.args.start h q.1 in
+          let n = right c.args.line.bytes.now c.names-expected.result.now c.args.kind _ _ c.args.start c.names-expected.ensures c.all_named.ensures ok fields f in
           let bad = subst (Read fields c.args.start (length c.names-expected.result.now)) m.1 (c.values.ensures fields f n.1) in
           (c.args.kind, q.0, n.0, first_unsound head fields m.0 h.1 (ap (first_malformed fields) (sym q.1) ∙ bad)),
     ))
@@ -88,12 +88,12 @@ returns c =
     let ok = mapped_ok c.all_named.result Misnamed c.map_err.result c.in_ok-map_err.field-0 named c.in_ok-map_err.was in
     let read : Mapped c.values.result Malformed c.map_err-2.result = search rules in
     let got = mapped_ok c.values.result Malformed c.map_err-2.result c.in_ok-vs.vs read c.in_ok-vs.was in
-    answers c.args.line.now (Ok c.form_of.result) (
+    answers c.args.line.bytes.now (Ok c.form_of.result) (
       c.requires.shaped,
       λ head fields h.
           let q = c.requires.headed head fields h in
-          let f = fields_at c.args.line.now head fields c.args.start h q.1 in
-          let n = right c.args.line.now c.names-expected.result.now c.args.kind _ _ c.args.start c.names-expected.ensures c.all_named.ensures ok fields f in
+          let f = fields_at c.args.line.bytes.now head fields c.args.start h q.1 in
+          let n = right c.args.line.bytes.now c.names-expected.result.now c.args.kind _ _ c.args.start c.names-expected.ensures c.all_named.ensures ok fields f in
           let v = subst (Read fields c.args.start (length c.names-expected.result.now)) got (c.values.ensures fields f n.1) in
           let many = ap (λ m. take m c.in_ok-vs.vs) (count_is c.names-expected.result.now (field_names c.args.kind) c.names-expected.ensures) in
           (q.0 ∙ ap head_text (sym c.form_of.ensures.kind), n.0 ∙ ap field_names (sym c.form_of.ensures.kind), all_sound fields c.args.start h.1 v.0, sym (values_are fields h.1) ∙ sym v.1 ∙ many ∙ sym c.form_of.ensures.numbers),

@@ -1,8 +1,0 @@
-use Rattle.std.proofs.Common.{◌≡◌, List, length}
-use Rattle.brackets.specs.Grammar.{Field}
-use Rattle.words.specs.Walk.{FieldsAt}
-use Rattle.words.proofs.Numbering.{Read}
-use Rattle.words.proofs.reading.values.Given as goal
-
-abbrev pub invariant-loop-v : goal.invariant-loop-v
-invariant-loop-v l = (length l.v-items ≡ l.count) × ((fs : List Field) → FieldsAt l.line l.initial.at fs → length fs ≡ l.count → Read l.line fs l.initial.at l.count l.v-index l.at l.v-items)
