@@ -1,12 +1,15 @@
-use Rattle.std.proofs.Common.{◌≡◌, ◌≤◌, ℤ, pos, ◌+ℤ◌, ◌*ℤ◌, nat_abs, sym, ap, ap₂, ◌∙◌, subst, arith, w64, to_z, of_z, rules}
+use Rattle.std.proofs.Common.{◌≡◌, ℕ, ◌*◌, ◌^◌, ◌<◌, ◌≤◌, ℤ, SFits, pos, ◌+ℤ◌, ◌*ℤ◌, nat_abs, sym, ap, ap₂, ◌∙◌, subst, arith, w64, to_z, of_z, rules}
 use Rattle.std.proofs.lemmas.Bool.{cond_both}
-use Rattle.std.proofs.lemmas.Int.{to_z-of_z}
+use Rattle.std.proofs.lemmas.Int.{ints, to_z-of_z}
 use lib.Signed.{lt_z}
-use Rattle.units.proofs.Integers.{fits-within, product_read, product_within, sum-within}
+use Rattle.units.proofs.Integers.{product_within, sum-within}
 use Rattle.pricing.specs.declared.prices.Prices.{Prices}
 use Rattle.sheet.specs.Evaluation.{imbalance, price_for}
 use Rattle.sheet.specs.declared.row.Row.{Row}
 use Rattle.sheet.proofs.price.FirstAmounts.tenths_of.Goals as goal
+
+fits-within : (z : ℤ) (A : ℕ) → nat_abs z ≤ A → A < 2 ^ 63 → SFits w64 z
+fits-within z A h l = omega (arith, ints)
 
 -- energy at its price, and tenths: the sum as the code reads it
 abbrev added_up : ℤ → ℤ → ℤ → ℤ
@@ -19,7 +22,10 @@ record Meant (x y t : ℤ) : Type 0 where
 
 meant : (x y t : ℤ) → nat_abs x ≤ 1999996 → nat_abs y ≤ 99999 → nat_abs t ≤ 99998800002 → Meant x y t
 meant x y t hx hy ht =
-    let p = product_read x y 1999996 99999 (fits-within x 1999996 hx (omega arith)) (fits-within y 99999 hy (omega arith)) hx hy (omega arith) in
+    let fx = to_z-of_z w64 x (fits-within x 1999996 hx (omega arith)) in
+    let fy = to_z-of_z w64 y (fits-within y 99999 hy (omega arith)) in
+    let fxy = to_z-of_z w64 (x *ℤ y) (fits-within (x *ℤ y) (1999996 * 99999) (product_within x y 1999996 99999 hx hy) (omega arith)) in
+    let p = ap₂ (λ (a : ℤ) (b : ℤ). to_z w64 (of_z w64 (a *ℤ b))) fx fy ∙ fxy in
     let z = to_z-of_z w64 t (fits-within t 99998800002 ht (omega arith)) in
     let e : added_up x y t ≡ x *ℤ y +ℤ t = ap₂ (λ (a : ℤ) (b : ℤ). a +ℤ b) p z in
     let s : nat_abs (x *ℤ y +ℤ t) ≤ 299996400006 = omega (arith, sum-within (x *ℤ y) t, product_within x y 1999996 99999 hx hy) in
