@@ -80,7 +80,7 @@ fn admit(remainder: i64, weights: &[i64]) -> Result<(), SharingRefusal>
     admit_weights(weights)
 }
 
-// A number for each weight, in order.
+// A number for each weight, in order. It is filled by `push`: `collect` asks for an allocator, and answers a `Result`.
 type Numbers = ArrayVec<u64, 20>;
 
 // Halers to be divided over weights, and the total of the weights, which is not 0.
