@@ -29,7 +29,7 @@ pub fn lies_within(limit: u64, z: i64) -> bool
 }
 
 impl PlainCell {
-    // Whether these are the plain numbers of some cell.
+    // Whether these are the plain numbers of some cell. In two steps, since one chain of five tests gets no proof.
     fn is_sound(&self) -> bool
         ensures { result ≡ sound self.now }
     {
@@ -66,6 +66,7 @@ impl Default for Cell {
     }
 }
 
+// Methods and no `From`: what is not sound is cleared, and a clause of each says that the two undo each other.
 impl Cell {
     // The cell that plain numbers stand for: the cleared one where they are not sound.
     pub fn from_plain(p: &PlainCell) -> Cell
@@ -75,11 +76,13 @@ impl Cell {
         if !p.is_sound() {
             return Cell::default();
         }
+        // `then_some` gets no proof beside the five bounds
+        let reading = if p.metered { Some(p.reading) } else { None };
         Cell {
             position: p.position,
             regulating: p.regulating,
             tenths: p.tenths,
-            reading: if p.metered { Some(p.reading) } else { None },
+            reading,
             last: p.last,
         }
     }
@@ -154,7 +157,7 @@ impl<D: Direction> Deliveries<D> {
         Some(Deliveries {
             kwh: p.kwh,
             total: p.total,
-            extreme: if p.delivered { Some(p.extreme) } else { None },
+            extreme: p.delivered.then_some(p.extreme),
             direction: PhantomData,
         })
     }
@@ -218,6 +221,7 @@ impl Default for HourRecord {
     }
 }
 
+// Methods and no `From`, as those of a cell.
 impl HourRecord {
     // The record that plain numbers stand for: the cleared one where they are not sound.
     pub fn from_plain(p: &PlainRecord) -> HourRecord

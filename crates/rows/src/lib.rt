@@ -59,6 +59,7 @@ impl Shift {
     }
 }
 
+// Written over the plain numbers, here and below: a struct update beside a sum gets no proof.
 impl Change for Shift {
     ghost change = { λ s. shifted s.0.value };
 
