@@ -8,10 +8,10 @@ use answers::Answer;
 
 // What answers the lines of a journal, and may be changed by them.
 pub trait Answering {
-    // What the line is answered, and what this is afterwards.
+    // What it answers to a line that is not empty, and what it is afterwards.
     ghost answered: { Self → List ℕ → GivenAnswer → Self → Type 0 };
 
-    // What a line that is not empty is answered.
+    // Answers a line that is not empty.
     fn answer_to(&mut self, line: &[u8]) -> Answer
         ensures { answered self.old line.now result self.new };
 

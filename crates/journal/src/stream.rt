@@ -76,6 +76,6 @@ pub fn answer_input<J: Answering + Drop, R: Read, W: Write>(
         }
         feed(&mut input, &block[..len], &mut room, out)?;
     }
-    // No source comes so far: the loop has an end since each must.
+    // A loop has an end, here after 2^64 - 1 reads: a source that still gives bytes then counts as one that fails.
     Err(io::Error::from(ErrorKind::TimedOut))
 }

@@ -52,11 +52,6 @@ fn fed(input: &mut Input, out: &mut [u8], bytes: &[u8]) -> usize {
     all
 }
 
-// A journal for a book of 2 parties and 1 day.
-fn started<'a>(cells: &'a mut [PlainCell], records: &'a mut [PlainRecord]) -> Option<Journal<'a>> {
-    Journal::start(Pages { cells, records }, 2, 1).ok()
-}
-
 // The number of the refusal to start a journal, or 0.
 fn refused(cells: &mut [PlainCell], records: &mut [PlainRecord], parties: i64, days: i64) -> u8 {
     match Journal::start(Pages { cells, records }, parties, days) {
@@ -81,7 +76,13 @@ fn starts(rt: HostRuntime) {
 fn lines(rt: HostRuntime) {
     let mut cells = [CELL; 48];
     let mut records = [RECORD; 24];
-    let mut journal = started(&mut cells, &mut records).expect(&rt, "pages of a book");
+    let pages = Pages {
+        cells: &mut cells,
+        records: &mut records,
+    };
+    let Ok(mut journal) = Journal::start(pages, 2, 1) else {
+        panic!(rt; "no journal");
+    };
     let mut out = [7u8; 4096];
     assert_eq!(rt; journal.answer_line(&mut out, 1, b""), Some(0));
     assert_eq!(rt; journal.answer_line(&mut out, 0, b""), None);
@@ -118,7 +119,13 @@ fn lines(rt: HostRuntime) {
 fn books(rt: HostRuntime) {
     let mut cells = [CELL; 48];
     let mut records = [RECORD; 24];
-    let mut journal = started(&mut cells, &mut records).expect(&rt, "pages of a book");
+    let pages = Pages {
+        cells: &mut cells,
+        records: &mut records,
+    };
+    let Ok(mut journal) = Journal::start(pages, 2, 1) else {
+        panic!(rt; "no journal");
+    };
     assert!(rt;
         answers(
             &mut journal,
@@ -166,7 +173,13 @@ fn books(rt: HostRuntime) {
 fn bytes(rt: HostRuntime) {
     let mut cells = [CELL; 48];
     let mut records = [RECORD; 24];
-    let journal = started(&mut cells, &mut records).expect(&rt, "pages of a book");
+    let pages = Pages {
+        cells: &mut cells,
+        records: &mut records,
+    };
+    let Ok(journal) = Journal::start(pages, 2, 1) else {
+        panic!(rt; "no journal");
+    };
     let mut out = [7u8; 4096];
     let mut input = Input::new(journal);
     let mut short = [7u8; 4095];
@@ -191,7 +204,13 @@ fn bytes(rt: HostRuntime) {
 fn example(rt: HostRuntime) {
     let mut cells = [CELL; 48];
     let mut records = [RECORD; 24];
-    let mut journal = started(&mut cells, &mut records).expect(&rt, "pages of a book");
+    let pages = Pages {
+        cells: &mut cells,
+        records: &mut records,
+    };
+    let Ok(mut journal) = Journal::start(pages, 2, 1) else {
+        panic!(rt; "no journal");
+    };
     assert!(rt;
         answers(
             &mut journal,
