@@ -5,10 +5,9 @@ use Rattle.std.proofs.lemmas.Bool.{and_from, and_parts, cond_both, cond-true, eq
 use Rattle.hourly.specs.declared.plain.PlainCell.{PlainCell}
 use Rattle.hourly.specs.declared.plain.PlainRecord.{PlainRecord}
 use Rattle.hourly.specs.declared.plain.PlainDeliveries.{PlainDeliveries}
-use Rattle.hourly.specs.declared.deliveries.Deliveries.{Deliveries}
 use Rattle.hourly.specs.Bounds.{deliveries_ok, within, within_opt}
 use Rattle.hourly.specs.Cells.{CellFigures, blank, cleared, given, plain, read, sound}
-use Rattle.hourly.specs.Records.{HourFigures, deliveries_given, deliveries_plain, deliveries_sound, no_deliveries, record_plain, record_read, record_sound}
+use Rattle.hourly.specs.Records.{DirectionFigures, HourFigures, deliveries_given, deliveries_plain, deliveries_sound, no_deliveries, record_plain, record_read, record_sound}
 use Rattle.book.specs.declared.account.Account.{Account}
 use Rattle.book.specs.Held.{Held, account_read, account_sound, cell_at, no_money, record_at}
 use Rattle.runs.specs.Kept.{hour_kwh}
@@ -102,13 +101,13 @@ laid-deliveries up k t None h = and_from _ true h refl
 pub sound_record : (f : HourFigures) → HourOk f → record_sound (record_plain f) ≡ true
 sound_record f h = and_from _ _ (laid-deliveries true f.upward.kwh f.upward.total f.upward.extreme h.up) (laid-deliveries false f.downward.kwh f.downward.total f.downward.extreme h.down)
 
-given_back : (d : Deliveries) → deliveries_given (deliveries_plain d) ≡ d
+given_back : (d : DirectionFigures) → deliveries_given (deliveries_plain d) ≡ d
 given_back d = ap (λ (o : Option ℤ). record { kwh = d.kwh; total = d.total; extreme = o }) (read_back d.extreme)
 
 pub read_record : (f : HourFigures) → HourOk f → record_read (record_plain f) ≡ f
 read_record f h =
     cond-true (record_sound (record_plain f)) _ no_deliveries (sound_record f h)
-    ∙ ap₂ (λ (u d : Deliveries). record { upward = u; downward = d }) (given_back f.upward) (given_back f.downward)
+    ∙ ap₂ (λ (u d : DirectionFigures). record { upward = u; downward = d }) (given_back f.upward) (given_back f.downward)
 
 plain-given : (up : Bool) (k : ℕ) (t e : ℤ) (b : Bool) → deliveries_sound up (record { kwh = k; total = t; delivered = b; extreme = e }) ≡ true → deliveries_plain (deliveries_given (record { kwh = k; total = t; delivered = b; extreme = e })) ≡ record { kwh = k; total = t; delivered = b; extreme = e }
 plain-given up k t e true h = refl
