@@ -1,7 +1,8 @@
 -- Where things lie on the pages. Assumes nothing.
 use Rattle.std.proofs.Common.{◌≡◌, ℕ, ◌+◌, ◌*◌, ◌≤◌, true, ◌&&◌, eqb, leb, length, mul-le-mul_right, arith}
 use Rattle.std.proofs.lemmas.Bool.{and_from, and_parts, eqb-true, leb-true, eq-eqb, le-leb}
-use Rattle.book.specs.Held.{Fits, Held, fits, paged, sized}
+use Rattle.entries.specs.declared.entry.Sizes.{Sizes}
+use Rattle.book.specs.Held.{Fits, Held, Sized, fits, paged, sized}
 
 -- the cells of a party end within the page
 pub party_inside : (p parties days : ℕ) → p + 1 ≤ parties → p * (days * 24) + days * 24 ≤ parties * days * 24
@@ -18,12 +19,15 @@ fitting h e =
     let f = and_parts (eqb (length h.cells) (s.parties * s.days * 24)) (eqb (length h.records) (s.days * 24)) a.1 in
     ((leb-true _ _ c.0, leb-true _ _ c.1, leb-true _ _ d.0, leb-true _ _ d.1), eqb-true _ _ f.0, eqb-true _ _ f.1)
 
--- and as a test
+-- and as tests
+pub sizes_fitted : (s : Sizes) → Sized s → sized s ≡ true
+sizes_fitted s f =
+    and_from (leb 1 s.parties && leb s.parties 20) (leb 1 s.days && leb s.days 62)
+    (and_from (leb 1 s.parties) (leb s.parties 20) (le-leb _ _ f.0) (le-leb _ _ f.1))
+    (and_from (leb 1 s.days) (leb s.days 62) (le-leb _ _ f.2) (le-leb _ _ f.3))
+
 pub fitted : (h : Held) → Fits h → fits h ≡ true
 fitted h f =
     let s = h.sizes in
-    and_from (sized s) (paged s (length h.cells) (length h.records))
-    (and_from (leb 1 s.parties && leb s.parties 20) (leb 1 s.days && leb s.days 62)
-    (and_from (leb 1 s.parties) (leb s.parties 20) (le-leb _ _ f.0.0) (le-leb _ _ f.0.1))
-    (and_from (leb 1 s.days) (leb s.days 62) (le-leb _ _ f.0.2) (le-leb _ _ f.0.3)))
+    and_from (sized s) (paged s (length h.cells) (length h.records)) (sizes_fitted s f.0)
     (and_from (eqb (length h.cells) (s.parties * s.days * 24)) (eqb (length h.records) (s.days * 24)) (eq-eqb _ _ f.1) (eq-eqb _ _ f.2))

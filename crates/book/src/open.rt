@@ -21,7 +21,7 @@ pub struct Returned<'a> {
 pub fn openable(parties: i64, days: i64, cells: usize, records: usize) -> bool
     ensures { result ≡ openable parties days cells records }
 {
-    if parties < 1 || parties > 20 || days < 1 || days > 62 {
+    if !(1..=20).contains(&parties) || !(1..=62).contains(&days) {
         return false;
     }
     let hours = days as usize * 24;

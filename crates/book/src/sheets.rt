@@ -79,10 +79,10 @@ impl<P: Pricing, S: Sharing> Book<'_, P, S> {
         ensures passed { result ≡ None → (index day < self.now.ledger.sizes.days) × (index hour < 24) }
     {
         let sizes = self.ledger.sizes();
-        if day < 1 || day > i64::from(sizes.days) {
+        if !(1..=i64::from(sizes.days)).contains(&day) {
             return Some(SheetRefusal::Day { day });
         }
-        if hour < 1 || hour > 24 {
+        if !(1..=24).contains(&hour) {
             return Some(SheetRefusal::Hour { hour });
         }
         None

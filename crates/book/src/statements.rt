@@ -57,7 +57,7 @@ impl<P: Pricing, S: Sharing> Book<'_, P, S> {
         ensures known { IfOk result (λ _. index party < self.now.ledger.sizes.parties) }
     {
         let sizes = self.ledger.sizes();
-        if party < 1 || party > i64::from(sizes.parties) {
+        if !(1..=i64::from(sizes.parties)).contains(&party) {
             return Err(Refusal::UnknownParty { party });
         }
         Ok(())

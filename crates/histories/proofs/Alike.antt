@@ -1,5 +1,5 @@
 -- Figures that agree within a book's sizes give every entry the same refusal: a number out of range is refused before anything is looked up for it. Assumes nothing.
-use Rattle.std.proofs.Common.{◌≡◌, ℕ, zero, suc, ◌+◌, ◌<◌, ◌≤◌, Bool, true, cond, not, ◌&&◌, List, [], ◌∷◌, ℤ, pos, ◌+ℤ◌, neg_ℤ, Some, None, Option, sym, refl, ap, ◌∙◌, ap₂, arith}
+use Rattle.std.proofs.Common.{◌≡◌, ℕ, zero, suc, ◌+◌, ◌<◌, ◌≤◌, Bool, cond, not, ◌&&◌, List, [], ◌∷◌, ℤ, pos, ◌+ℤ◌, neg_ℤ, Some, None, Option, sym, refl, ap, ◌∙◌, ap₂, arith}
 use lib.Signed.{le_z}
 use Rattle.hourly.specs.Bounds.{within}
 use Rattle.hourly.specs.Cells.{CellFigures}

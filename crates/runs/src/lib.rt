@@ -1,15 +1,12 @@
 // A book over whole lists of entries: what holds whatever they are, and a call that enters such a list (docs/RULES.md, "Parties, days and pages" to "Cover").
 #![tactic(auto)]
 
-ghost use Rattle.std.specs.Prelude.{◌≡◌, ◌≤◌, true, length};
+ghost use Rattle.std.specs.Prelude.{◌≡◌, ◌≤◌, length};
 ghost use Rattle.book.specs.Books.{held, terms_by};
-ghost use Rattle.book.specs.Opening.{sizes_of};
-ghost use Rattle.book.specs.Posting.{opened};
-ghost use Rattle.book.specs.Standing.{terms};
-ghost use Rattle.runs.specs.Runs.{AfterHolds, LawsHold, Ran, WholeCash, ran, replied, runnable};
+ghost use Rattle.runs.specs.Runs.{AfterHolds, LawsHold, Ran, WholeCash, ran, replied};
 
 use book::book::Book;
-use book::open::{Returned, openable};
+use book::open::Returned;
 use book::pages::Pages;
 use entries::entry::Entry;
 use entries::refusal::Refusal;
@@ -17,21 +14,7 @@ use entries::reply::Reply;
 use pricing::Pricing;
 use sharing::Sharing;
 
-// Whether a book can be opened and every entry has a place for its reply.
-fn runnable(
-    parties: i64,
-    days: i64,
-    cells: usize,
-    records: usize,
-    entries: usize,
-    places: usize,
-) -> bool
-    ensures { result ≡ runnable parties days cells records entries places }
-{
-    openable(parties, days, cells, records) && entries <= places
-}
-
-// Enters a list of entries, and writes each reply at the place of its entry.
+// Enters a list of entries, and writes each reply at the place of its entry. By an index: of what is written through a `zip` of `iter_mut` nothing is known.
 fn enter_all<P: Pricing, S: Sharing>(
     book: &mut Book<'_, P, S>,
     entries: &[Entry],
@@ -45,31 +28,6 @@ fn enter_all<P: Pricing, S: Sharing>(
 {
     for (i, entry) in entries.iter().enumerate() {
         replies[i] = book.enter(entry);
-    }
-}
-
-// A book opened on pages of its size, after a list of entries.
-fn open_and_enter<'a, P: Pricing + Drop, S: Sharing + Drop>(
-    pages: Pages<'a>,
-    parties: i64,
-    days: i64,
-    pricing: P,
-    sharing: S,
-    entries: &[Entry],
-    replies: &mut [Reply],
-) -> Book<'a, P, S>
-    requires { runnable parties days (length pages.cells.now) (length pages.records.now) (length entries.now) (length replies.old) ≡ true }
-    ensures held { held result ≡ ran (terms (sizes_of parties days) (P.Pricing.map pricing) (S.Sharing.map sharing)) (opened (sizes_of parties days)) entries.now }
-    ensures replies { replies.new ≡ replied (terms (sizes_of parties days) (P.Pricing.map pricing) (S.Sharing.map sharing)) (opened (sizes_of parties days)) entries.now replies.old }
-    ensures pricing { result.pricing ≡ pricing }
-    ensures sharing { result.sharing ≡ sharing }
-{
-    match Book::open(pages, parties, days, pricing, sharing) {
-        Ok(mut book) => {
-            enter_all(&mut book, entries, replies);
-            book
-        }
-        Err(_) => unreachable(),
     }
 }
 
@@ -88,18 +46,13 @@ fn refused_or_run<'a, P: Pricing + Drop, S: Sharing + Drop>(
     ensures after { AfterHolds }
     ensures cash { WholeCash }
 {
-    if !runnable(
-        parties,
-        days,
-        pages.cells.len(),
-        pages.records.len(),
-        entries.len(),
-        replies.len(),
-    ) {
+    if entries.len() > replies.len() {
         let refusal = Refusal::WrongSize;
         return Err(Returned { refusal, pages });
     }
-    Ok(open_and_enter(pages, parties, days, pricing, sharing, entries, replies))
+    let mut book = Book::open(pages, parties, days, pricing, sharing)?;
+    enter_all(&mut book, entries, replies);
+    Ok(book)
 }
 
 // Opens a book on these pages and enters a list of entries, of any kinds in any order; each reply is written at the place of its entry.
