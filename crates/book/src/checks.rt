@@ -19,12 +19,13 @@ ghost use Rattle.book.specs.Books.{held, terms_by};
 mod entering;
 
 use crate::book::{Book, Ledger};
-use crate::{hours, index, lies_within, market_cash, minus};
+use crate::{hours, index, market_cash, minus};
 use cover::prices::ParametricPrices;
 use entries::entry::Entry;
 use entries::refusal::Refusal;
 use entries::{check_fields, next_state};
 use hourly::cell::Cell;
+use hourly::lies_within;
 use hourly::plain::{PlainCell, PlainRecord};
 use hourly::record::HourRecord;
 use needs::trade::Trade;

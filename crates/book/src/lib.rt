@@ -28,6 +28,7 @@ use account::Account;
 use book::Ledger;
 use entries::entry::{DayState, Entry, Sizes};
 use entries::next_state;
+use hourly::lies_within;
 use hourly::plain::{PlainCell, PlainRecord};
 use hourly::record::HourRecord;
 use pages::Pages;
@@ -47,13 +48,6 @@ fn minus(number: i64) -> i64
     ensures { result ≡ neg_ℤ number }
 {
     -number
-}
-
-// Whether a number lies within ±limit.
-fn lies_within(limit: u64, number: i64) -> bool
-    ensures { result ≡ within limit number }
-{
-    number.unsigned_abs() <= limit
 }
 
 // An account whose numbers are in bounds, or one without money.

@@ -35,16 +35,6 @@ fn sheet_from(hour: i64, cells: &[PlainCell], parties: usize, lying: &PlainRecor
     Gathered::gather(hour, first_cells(cells, parties), lying)
 }
 
-// A cleared cell as it lies.
-const BLANK: PlainCell = PlainCell {
-    position: 0,
-    regulating: 0,
-    tenths: 0,
-    metered: false,
-    reading: 0,
-    last: 0,
-};
-
 impl Ledger<'_> {
     // The cells of an hour, one for each party in order.
     // `array::from_fn` was tried: it says that some state of the closure gave each value, and not that the ledger which it borrows stayed the same.
@@ -52,7 +42,7 @@ impl Ledger<'_> {
         requires { (day < self.now.sizes.days) × (hour < 24) }
         ensures { map read (take self.now.sizes.parties result) ≡ listed self.now.sizes.parties (λ p. (standing_on self.now).cell p day hour) }
     {
-        let mut cells = [BLANK; 20];
+        let mut cells = [PlainCell::default(); 20];
         for party in 0..self.sizes.parties as usize {
             cells[party] = self.pages.cells[self.row_at(party, day) + hour];
         }

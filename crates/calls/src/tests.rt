@@ -3,32 +3,11 @@ use super::{deposit, market, withdraw};
 use book::book::Book;
 use book::pages::Pages;
 use entries::reply::Reply;
-use hourly::plain::{PlainCell, PlainDeliveries, PlainRecord};
+use hourly::plain::{PlainCell, PlainRecord};
 use pricing::ladder::Ladder;
 use refusals::Tells;
 use sharing::running::Running;
 use std::test::Fail;
-
-const CELL: PlainCell = PlainCell {
-    position: 0,
-    regulating: 0,
-    tenths: 0,
-    metered: false,
-    reading: 0,
-    last: 0,
-};
-
-const NONE: PlainDeliveries = PlainDeliveries {
-    kwh: 0,
-    total: 0,
-    delivered: false,
-    extreme: 0,
-};
-
-const RECORD: PlainRecord = PlainRecord {
-    upward: NONE,
-    downward: NONE,
-};
 
 // Whether a reply is the refusal of this number and place; 0 where it is accepted.
 fn told(number: u8, place: i64, reply: Reply) -> bool {
@@ -51,8 +30,8 @@ fn filled(book: &mut Book<'_, Ladder, Running>, deposits: u32) -> u32 {
 
 #[test]
 fn cash_at_its_limit(rt: HostRuntime) -> Result<(), Fail> {
-    let mut cells = [CELL; 48];
-    let mut records = [RECORD; 24];
+    let mut cells = [PlainCell::default(); 48];
+    let mut records = [PlainRecord::default(); 24];
     let pages = Pages {
         cells: &mut cells,
         records: &mut records,

@@ -4,25 +4,17 @@ use super::need;
 use super::prices::ParametricPrices;
 use hourly::plain::PlainCell;
 
-const CLEARED: PlainCell = PlainCell {
-    position: 0,
-    regulating: 0,
-    tenths: 0,
-    metered: false,
-    reading: 0,
-    last: 0,
-};
-
 // A cell with a position alone.
 fn at(position: i64) -> PlainCell {
-    let mut cell = CLEARED;
-    cell.position = position;
-    cell
+    PlainCell {
+        position,
+        ..PlainCell::default()
+    }
 }
 
 // The need of a party whose only position is in an hour of a single day.
 fn alone(hour: usize, position: i64) -> Option<i64> {
-    let mut cells = [CLEARED; 24];
+    let mut cells = [PlainCell::default(); 24];
     if 1 <= hour && hour <= 24 {
         cells[hour - 1] = at(position);
     }
@@ -59,7 +51,7 @@ fn positions_are_read_through_the_check(rt: HostRuntime) {
 #[test]
 fn days_that_do_not_count(rt: HostRuntime) {
     let prices = ParametricPrices::in_use();
-    let mut cells = [CLEARED; 48];
+    let mut cells = [PlainCell::default(); 48];
     cells[23] = at(10);
     cells[24] = at(-10);
     assert_eq!(rt; need(&prices, &[true, true], &cells), Some(3_600));
@@ -72,16 +64,22 @@ fn days_that_do_not_count(rt: HostRuntime) {
 fn sizes_that_do_not_fit(rt: HostRuntime) {
     let prices = ParametricPrices::in_use();
     assert_eq!(rt; need::<bool>(&prices, &[], &[]), None);
-    assert_eq!(rt; need(&prices, &[true], &[CLEARED; 23]), None);
-    assert_eq!(rt; need(&prices, &[true], &[CLEARED; 25]), None);
-    assert_eq!(rt; need(&prices, &[true; 62], &[CLEARED; 1_488]), Some(0));
-    assert_eq!(rt; need(&prices, &[true; 63], &[CLEARED; 1_512]), None);
+    assert_eq!(rt; need(&prices, &[true], &[PlainCell::default(); 23]), None);
+    assert_eq!(rt; need(&prices, &[true], &[PlainCell::default(); 25]), None);
+    assert_eq!(rt;
+        need(&prices, &[true; 62], &[PlainCell::default(); 1_488]),
+        Some(0)
+    );
+    assert_eq!(rt;
+        need(&prices, &[true; 63], &[PlainCell::default(); 1_512]),
+        None
+    );
 }
 
 // The need of 1 kWh sold in each of the first hours, at a short price of 11.
 fn at_eleven(hours: usize) -> Option<i64> {
     let prices = ParametricPrices::new([HourPrices { short: 11, long: 0 }; 24])?;
-    let mut cells = [CLEARED; 24];
+    let mut cells = [PlainCell::default(); 24];
     for (i, cell) in cells.iter_mut().enumerate() {
         if i < hours {
             *cell = at(1);

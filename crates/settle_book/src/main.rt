@@ -2,7 +2,7 @@
 #![tactic(auto)]
 
 use book::pages::Pages;
-use hourly::plain::{PlainCell, PlainDeliveries, PlainRecord};
+use hourly::plain::{PlainCell, PlainRecord};
 use keeping::Journal;
 use std::io;
 use std::io::{BufWriter, Write};
@@ -17,32 +17,10 @@ const RECORDS: usize = DAYS as usize * 24;
 
 const CELLS: usize = PARTIES as usize * RECORDS;
 
-// What lies on the pages until a book clears them.
-const CELL: PlainCell = PlainCell {
-    position: 0,
-    regulating: 0,
-    tenths: 0,
-    metered: false,
-    reading: 0,
-    last: 0,
-};
-
-const NONE: PlainDeliveries = PlainDeliveries {
-    kwh: 0,
-    total: 0,
-    delivered: false,
-    extreme: 0,
-};
-
-const RECORD: PlainRecord = PlainRecord {
-    upward: NONE,
-    downward: NONE,
-};
-
 fn main(rt: HostRuntime) -> io::Result<()> {
     let mut out = BufWriter::new(rt.alloc(), rt.stdout())?;
-    let mut cells = [CELL; CELLS];
-    let mut records = [RECORD; RECORDS];
+    let mut cells = [PlainCell::default(); CELLS];
+    let mut records = [PlainRecord::default(); RECORDS];
     let pages = Pages {
         cells: &mut cells,
         records: &mut records,
