@@ -1,7 +1,7 @@
 // Layer 1, brackets: whether a line has the form's shape (docs/RULES.md, "The journal's form" and "Refusals").
 #![tactic(auto)]
 
-ghost use Rattle.std.specs.Prelude.{◌≡◌, ℕ, ◌+◌, ◌≤◌, length, MatchOption, MatchResult};
+ghost use Rattle.std.specs.Prelude.{◌≡◌, ◌+◌, ◌≤◌, length, MatchOption, MatchResult};
 ghost use Rattle.brackets.specs.Bytes.{admitted, Clean, FirstBad};
 ghost use Rattle.brackets.specs.Grammar.{WellShaped, Stuck, Only};
 ghost use Rattle.brackets.specs.Scanner.{step};

@@ -24,17 +24,17 @@ counted_small true t m h = h
 counted_small false t m h = omega arith
 
 module _ (ps : List HourPrices) (priced : in_range ps ≡ true) (m : ℕ) where
-  pub hour_small : (k : ℕ) (z : ℤ) → nat_abs z ≤ m → exposure (price_at ps k) z ≤ m * 99999
+  hour_small : (k : ℕ) (z : ℤ) → nat_abs z ≤ m → exposure (price_at ps k) z ≤ m * 99999
   hour_small k z h = let s = price_small ps priced k in exposure_small (price_at ps k) z m s.0 s.1 h
 
   pub day_small : (kwh : ℕ → ℤ) → ((h : ℕ) → nat_abs (kwh h) ≤ m) → (hours : ℕ) → day_tenths ps hours kwh ≤ hours * (m * 99999)
   day_small kwh h hours = total_small (λ k. exposure (price_at ps k) (kwh k)) (m * 99999) (λ k. hour_small k (kwh k) (h k)) hours
 
-  pub days_small : (counts : ℕ → Bool) (kwh : ℕ → ℕ → ℤ) → ((d h : ℕ) → nat_abs (kwh d h) ≤ m) → (days : ℕ) → tenths ps (λ d. 24) counts kwh days ≤ days * (24 * (m * 99999))
+  days_small : (counts : ℕ → Bool) (kwh : ℕ → ℕ → ℤ) → ((d h : ℕ) → nat_abs (kwh d h) ≤ m) → (days : ℕ) → tenths ps (λ d. 24) counts kwh days ≤ days * (24 * (m * 99999))
   days_small counts kwh h days = total_small (day_counted ps (λ d. 24) counts kwh) (24 * (m * 99999)) (λ d. counted_small (counts d) _ _ (day_small (kwh d) (h d) 24)) days
 
 -- the position of a cell, and after a trade
-pub cell_small : (x : PlainCell) → nat_abs (read x).position ≤ 499999
+cell_small : (x : PlainCell) → nat_abs (read x).position ≤ 499999
 cell_small x = go (sound x) refl
   where
     go : (b : Bool) → sound x ≡ b → nat_abs (cond b (given x) cleared).position ≤ 499999

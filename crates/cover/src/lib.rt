@@ -77,12 +77,8 @@ impl ParametricPrices {
         ensures bound { result ≤ 99898901001 }
     {
         let HourPrices { short, long } = self.hours[hour];
-        let kwh = position.unsigned_abs();
-        if position < 0 {
-            kwh * long
-        } else {
-            kwh * short
-        }
+        let price = if position < 0 { long } else { short };
+        position.unsigned_abs() * price
     }
 
     // The tenths of a day after a trade; its cells are the party's from place `first` on.
@@ -127,7 +123,7 @@ fn halers(tenths: u64) -> i64
 fn fits(days: usize, cells: usize) -> bool
     ensures { result ≡ fits days cells }
 {
-    1 <= days && days <= 62 && cells == days * 24
+    (1..=62).contains(&days) && cells == days * 24
 }
 
 // Both prices of an hour are at most 99,999.

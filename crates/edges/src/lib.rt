@@ -26,24 +26,8 @@ mod tests {
     };
 
     const METERED: PlainCell = PlainCell {
-        position: 0,
-        regulating: 0,
-        tenths: 0,
         metered: true,
-        reading: 0,
-        last: 0,
-    };
-
-    const NONE: PlainDeliveries = PlainDeliveries {
-        kwh: 0,
-        total: 0,
-        delivered: false,
-        extreme: 0,
-    };
-
-    const QUIET: PlainRecord = PlainRecord {
-        upward: NONE,
-        downward: NONE,
+        ..CLEARED
     };
 
     #[test]
@@ -55,6 +39,17 @@ mod tests {
         assert_eq!(rt; units::round_tenths(-5), -1);
         assert_eq!(rt; units::round_tenths(i64::MAX), 922_337_203_685_477_581);
         assert_eq!(rt; units::round_tenths(i64::MIN), -922_337_203_685_477_581);
+    }
+
+    #[test]
+    fn any_divisor_but_zero(rt: HostRuntime) {
+        assert_eq!(rt; units::nearest(5, 2), Some(3));
+        assert_eq!(rt; units::nearest(-5, 2), Some(-3));
+        assert_eq!(rt; units::nearest(10, 3), Some(3));
+        assert_eq!(rt; units::nearest(i64::MIN, 1), Some(i64::MIN));
+        assert_eq!(rt; units::nearest(i64::MAX, u64::MAX), Some(0));
+        assert_eq!(rt; units::nearest(i64::MIN, u64::MAX), Some(-1));
+        assert_eq!(rt; units::nearest(1, 0), None);
     }
 
     #[test]
@@ -77,11 +72,7 @@ mod tests {
     fn at(position: i64) -> PlainCell {
         PlainCell {
             position,
-            regulating: 0,
-            tenths: 0,
-            metered: false,
-            reading: 0,
-            last: 0,
+            ..CLEARED
         }
     }
 
@@ -149,6 +140,8 @@ mod tests {
                 ..at(1)
             })
         );
+        assert_eq!(rt; at(-7).position(), -7);
+        assert_eq!(rt; at(500_000).position(), 0);
         assert_eq!(rt; Cell::from_plain(&METERED).reading, Some(0));
         assert_eq!(rt; Cell::from_plain(&CLEARED).reading, None);
     }
@@ -161,12 +154,11 @@ mod tests {
             delivered: true,
             extreme,
         };
-        HourRecord::from_plain(&PlainRecord {
+        let record = PlainRecord {
             upward,
-            downward: NONE,
-        })
-        .upward
-        .kwh == kwh
+            ..PlainRecord::default()
+        };
+        HourRecord::from_plain(&record).upward.kwh == kwh
     }
 
     fn kept_downward(kwh: u64, total: i64, extreme: i64) -> bool {
@@ -176,12 +168,11 @@ mod tests {
             delivered: true,
             extreme,
         };
-        HourRecord::from_plain(&PlainRecord {
-            upward: NONE,
+        let record = PlainRecord {
             downward,
-        })
-        .downward
-        .kwh == kwh
+            ..PlainRecord::default()
+        };
+        HourRecord::from_plain(&record).downward.kwh == kwh
     }
 
     #[test]
@@ -195,7 +186,7 @@ mod tests {
 
     // The downward kWh and the lowest price after a second delivery to an hour with 100 kWh at 700 downward.
     fn delivered_downward(kwh: i64, price: i64) -> Option<(u64, Option<i64>)> {
-        let first = HourRecord::from_plain(&QUIET).deliver(-100, 700)?;
+        let first = HourRecord::default().deliver(-100, 700)?;
         let second = first.deliver(kwh, price)?;
         Some((second.downward.kwh, second.downward.extreme))
     }
@@ -218,7 +209,7 @@ mod tests {
 
     #[test]
     fn ladder_rungs(rt: HostRuntime) {
-        let hour = HourRecord::from_plain(&QUIET);
+        let hour = HourRecord::default();
         assert_eq!(rt; long(&Ladder, 0, &hour), Ok(3_000));
         assert_eq!(rt; long(&Ladder, -50_000, &hour), Ok(3_000));
         assert_eq!(rt; long(&Ladder, -50_001, &hour), Ok(4_500));
@@ -232,15 +223,14 @@ mod tests {
 
     // The long price, or number and place of the refusal.
     fn long<P: Pricing>(rule: &P, system: i64, hour: &HourRecord) -> Result<i64, (u8, i64)> {
-        match rule.prices(system, hour) {
-            Ok(prices) => Ok(prices.long),
-            Err(refusal) => Err((refusal.number(), refusal.place())),
-        }
+        rule.prices(system, hour)
+            .map(|prices| prices.long)
+            .map_err(|refusal| (refusal.number(), refusal.place()))
     }
 
     #[test]
     fn system_imbalance_limits(rt: HostRuntime) -> Result<(), Fail> {
-        let hour = HourRecord::from_plain(&QUIET);
+        let hour = HourRecord::default();
         let Some(default) = Price::new(-99_999) else {
             return Err(Fail::new("a price in range"));
         };
@@ -262,14 +252,12 @@ mod tests {
 
     // Number and place of the refusal that an hour's sheet carries.
     fn refused(hour: i64, cells: &[PlainCell]) -> Option<(u8, i64)> {
-        told(&settle_hour(hour, cells, &QUIET, &Ladder, &Running))
+        told(&settle_hour(hour, cells, &PlainRecord::default(), &Ladder, &Running))
     }
 
     fn told(sheet: &Balanced) -> Option<(u8, i64)> {
-        match sheet.refusal() {
-            Some(refusal) => Some((refusal.number(), refusal.place())),
-            None => None,
-        }
+        let refusal = sheet.refusal()?;
+        Some((refusal.number(), refusal.place()))
     }
 
     #[test]
@@ -288,7 +276,13 @@ mod tests {
 
     #[test]
     fn a_refused_sheet_is_empty(rt: HostRuntime) {
-        let sheet = settle_hour(3, &[CLEARED, METERED], &QUIET, &Ladder, &Running);
+        let sheet = settle_hour(
+            3,
+            &[CLEARED, METERED],
+            &PlainRecord::default(),
+            &Ladder,
+            &Running,
+        );
         assert_eq!(rt; sheet.totals().parties, 0);
         assert_eq!(rt; sheet.totals().remainder, 0);
         assert_eq!(rt; sheet.totals().operator, 0);
@@ -308,7 +302,13 @@ mod tests {
             reading: -1_050,
             ..METERED
         };
-        let sheet = settle_hour(24, &[short, long], &QUIET, &Ladder, &Running);
+        let sheet = settle_hour(
+            24,
+            &[short, long],
+            &PlainRecord::default(),
+            &Ladder,
+            &Running,
+        );
         assert_eq!(rt; sheet.amount(0), None);
         assert_eq!(rt; sheet.amount(1), Some(-9_231));
         assert_eq!(rt; sheet.amount(2), Some(9_231));

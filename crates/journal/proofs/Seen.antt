@@ -1,7 +1,7 @@
 -- What answers lines, seen as less than it is: `seen` may leave out of it what no answer shows, as a journal's view leaves out its references. What holds of it then holds of what is seen. Assumes nothing.
-use Rattle.std.proofs.Common.{ℕ, ◌+◌, List, [], ◌∷◌, ◌++◌, ℤ, pos, Some, None, Option, ap}
+use Rattle.std.proofs.Common.{ℕ, ◌+◌, List, [], ◌∷◌, ◌++◌, ℤ, pos, ap}
 use Rattle.answers.specs.declared.Answer.{Answer}
-use Rattle.journal.specs.Calling.{LineText, LineCall}
+use Rattle.journal.specs.Calling.{LineText}
 use Rattle.journal.specs.Lines.{Outcome, Transcript, Whole}
 
 module _ {J V : Type 0} (seen : J → V) (A : V → List ℕ → Answer → V → Type 0) where
@@ -10,10 +10,6 @@ module _ {J V : Type 0} (seen : J → V) (A : V → List ℕ → Answer → V �
 
   line_text_seen : (j k : J) (number : ℤ) (line text : List ℕ) → LineText By j number line text k → LineText A (seen j) number line text (seen k)
   line_text_seen j k number line text t = (λ z. ((t.0 z).0, ap seen (t.0 z).1), t.1)
-
-  pub line_call_seen : (j k : J) (d line e : List ℕ) (number : ℤ) (r : Option ℕ) → LineCall By j d number line r k e → LineCall A (seen j) d number line r (seen k) e
-  line_call_seen j k d line e number None c = (c.0, ap seen c.1, c.2)
-  line_call_seen j k d line e number (Some n) c = (c.0, (c.1.0, line_text_seen j k number line c.1.0 c.1.1, c.1.2, c.1.3, c.1.4))
 
   outcome_seen : (j k : J) (n : ℕ) (line text : List ℕ) → Outcome By j n line text k → Outcome A (seen j) n line text (seen k)
   outcome_seen j k n line text o = (λ s. line_text_seen j k (pos n) line text (o.0 s), λ past. ((o.1 past).0, ap seen (o.1 past).1))

@@ -76,5 +76,6 @@ pub fn answer_input<J: Answering + Drop, R: Read, W: Write>(
         }
         feed(&mut input, &block[..len], &mut room, out)?;
     }
+    // No source comes so far: the loop has an end since each must.
     Err(io::Error::from(ErrorKind::TimedOut))
 }

@@ -4,3 +4,4 @@ pub mod Starting
 pub mod Entered
 pub mod Answered
 pub mod Cutting
+pub mod Lines

@@ -1,5 +1,5 @@
 // The opening of a journal's book (docs/RULES.md, "book and show").
-ghost use Rattle.std.specs.Prelude.{◌≡◌, ◌&&◌, length};
+ghost use Rattle.std.specs.Prelude.{◌≡◌, ◌&&◌, length, IfOk};
 ghost use Rattle.entries.specs.Fields.{between, first_of};
 ghost use Rattle.rules.specs.Choice.{chosen, rules_checks, rules_chosen};
 ghost use Rattle.book.specs.Books.{held};
@@ -26,11 +26,11 @@ struct Opening {
 }
 
 // Whether the pages have the cells and the records of a book of these sizes.
-fn roomy(sizes: &Sizes, cells: usize, records: usize) -> bool
-    ensures { result ≡ roomy sizes.now cells records }
+fn roomy(sizes: &Sizes, pages: &Pages<'_>) -> bool
+    ensures { result ≡ roomy sizes.now (length pages.now.cells.now) (length pages.now.records.now) }
 {
     let hours = sizes.days as usize * 24;
-    sizes.parties as usize * hours <= cells && hours <= records
+    sizes.parties as usize * hours <= pages.cells.len() && hours <= pages.records.len()
 }
 
 // Whether so many parties and days are 1 to the limits, and no more than a book can have.
@@ -49,12 +49,12 @@ fn allowed(limits: &Sizes, parties: i64, days: i64) -> bool
 // The sizes of the book that a `book` asks for.
 fn sizes_of(
     limits: &Sizes,
-    cells: usize,
-    records: usize,
+    pages: &Pages<'_>,
     parties: i64,
     days: i64,
 ) -> Result<Sizes, BookRefusal>
-    ensures { result ≡ sizes_in limits.now cells records parties days }
+    ensures sizes { result ≡ sizes_in limits.now (length pages.now.cells.now) (length pages.now.records.now) parties days }
+    ensures fitting { IfOk result (Fitting (length pages.now.cells.now) (length pages.now.records.now)) }
 {
     if !allowed(limits, parties, days) {
         return Err(BookRefusal::WrongSize);
@@ -63,7 +63,7 @@ fn sizes_of(
         parties: parties as u8,
         days: days as u8,
     };
-    if !roomy(&sizes, cells, records) {
+    if !roomy(&sizes, pages) {
         return Err(BookRefusal::WrongSize);
     }
     Ok(sizes)
@@ -71,16 +71,18 @@ fn sizes_of(
 
 // An opening of these sizes, with the rules of these numbers.
 fn ruled(sizes: Sizes, pricing: i64, default: i64, sharing: i64) -> Result<Opening, Refusal>
-    ensures { result ≡ ruled_by sizes (chosen (first_of (rules_checks pricing default sharing)) (rules_chosen pricing default sharing)) }
+    ensures opening { result ≡ ruled_by sizes (chosen (first_of (rules_checks pricing default sharing)) (rules_chosen pricing default sharing)) }
+    ensures sizes { IfOk result (λ o. o.sizes ≡ sizes) }
 {
     let rules = rules::choose(pricing, default, sharing)?;
     Ok(Opening { sizes, rules })
 }
 
 // The opening that a form asks of a journal without a book.
-fn asked(limits: &Sizes, cells: usize, records: usize, form: &Form) -> Result<Opening, Refusal>
-    ensures opening { result ≡ opening_on limits.now cells records form.now }
-    ensures fitting { FittingOpening cells records result }
+#[tactic(auto, using(crate::proofs::Fitting::fitting_opening))]
+fn asked(limits: &Sizes, pages: &Pages<'_>, form: &Form) -> Result<Opening, Refusal>
+    ensures opening { result ≡ opening_on limits.now (length pages.now.cells.now) (length pages.now.records.now) form.now }
+    ensures fitting { FittingOpening (length pages.now.cells.now) (length pages.now.records.now) result }
 {
     match form {
         Form::Book {
@@ -90,7 +92,7 @@ fn asked(limits: &Sizes, cells: usize, records: usize, form: &Form) -> Result<Op
             default,
             sharing,
         } => {
-            let sizes = sizes_of(limits, cells, records, *parties, *days)?;
+            let sizes = sizes_of(limits, pages, *parties, *days)?;
             ruled(sizes, *pricing, *default, *sharing)
         }
         Form::Entry(_) | Form::Show { party: _ } => Err(Refusal::NotOpened),

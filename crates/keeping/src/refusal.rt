@@ -7,6 +7,7 @@ use entries::refusal::Refusal as BookRefusal;
 use refusals::Tells;
 use words::{Told, WordFault};
 
+// The cases of a journal without a book stand among them, and not in one case that holds its `Refusal`: a word fault then took two steps to come in.
 #[derive(Clone, Copy)]
 pub enum Refusal {
     // What the layers below refuse.

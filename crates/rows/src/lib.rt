@@ -16,7 +16,8 @@ mod tests;
 
 use changes::{Delivery, Reading, Shift};
 use hourly::cell::Cell;
-use hourly::plain::{PlainCell, PlainDeliveries, PlainRecord};
+use hourly::plain::{PlainCell, PlainRecord};
+use units::limited::Limited;
 
 // What is done to every cell of a row, laid down as plain numbers.
 pub trait Change {
@@ -52,21 +53,18 @@ pub fn change_cells<C: Change>(row: &mut [PlainCell], change: &C)
 impl Shift {
     // kWh added to positions, or none beyond ±499,000.
     pub fn new(kwh: i64) -> Option<Shift>
-        ensures { option_map (λ (s : Shift). s.kwh) result ≡ (if nat_le (unsigned_abs kwh) 499000 then Some kwh else None) }
+        ensures { option_map (λ (s : Shift). s.0.value) result ≡ (if nat_le (unsigned_abs kwh) 499000 then Some kwh else None) }
     {
-        if kwh.unsigned_abs() > 499_000 {
-            return None;
-        }
-        Some(Shift { kwh })
+        Some(Shift(Limited::new(kwh)?))
     }
 }
 
 impl Change for Shift {
-    ghost change = { λ s. shifted s.kwh };
+    ghost change = { λ s. shifted s.0.value };
 
     fn of(&self, cell: &Cell) -> PlainCell {
         let mut plain = cell.to_plain();
-        plain.position = cell.position + self.kwh;
+        plain.position = cell.position + self.0.value();
         plain
     }
 }
@@ -74,22 +72,19 @@ impl Change for Shift {
 impl Reading {
     // A reading, or none beyond ±499,999.
     pub fn new(kwh: i64) -> Option<Reading>
-        ensures { option_map (λ (s : Reading). s.kwh) result ≡ (if nat_le (unsigned_abs kwh) 499999 then Some kwh else None) }
+        ensures { option_map (λ (s : Reading). s.0.value) result ≡ (if nat_le (unsigned_abs kwh) 499999 then Some kwh else None) }
     {
-        if kwh.unsigned_abs() > 499_999 {
-            return None;
-        }
-        Some(Reading { kwh })
+        Some(Reading(Limited::new(kwh)?))
     }
 }
 
 impl Change for Reading {
-    ghost change = { λ s. metered s.kwh };
+    ghost change = { λ s. metered s.0.value };
 
     fn of(&self, cell: &Cell) -> PlainCell {
         let mut plain = cell.to_plain();
         plain.metered = true;
-        plain.reading = self.kwh;
+        plain.reading = self.0.value();
         plain
     }
 }
@@ -97,46 +92,36 @@ impl Change for Reading {
 impl Delivery {
     // A delivery, or none beyond ±499,000 kWh or ±99,999 CZK/MWh.
     pub fn new(kwh: i64, price: i64) -> Option<Delivery>
-        ensures kwh { option_map (λ (d : Delivery). d.kwh) result ≡ (if nat_le (unsigned_abs kwh) 499000 && nat_le (unsigned_abs price) 99999 then Some kwh else None) }
-        ensures price { option_map (λ (d : Delivery). d.price) result ≡ (if nat_le (unsigned_abs kwh) 499000 && nat_le (unsigned_abs price) 99999 then Some price else None) }
+        ensures kwh { option_map (λ (d : Delivery). d.kwh.value) result ≡ (if nat_le (unsigned_abs kwh) 499000 && nat_le (unsigned_abs price) 99999 then Some kwh else None) }
+        ensures price { option_map (λ (d : Delivery). d.price.value) result ≡ (if nat_le (unsigned_abs kwh) 499000 && nat_le (unsigned_abs price) 99999 then Some price else None) }
     {
-        if kwh.unsigned_abs() > 499_000 || price.unsigned_abs() > 99_999 {
-            return None;
-        }
-        Some(Delivery { kwh, price })
+        Some(Delivery {
+            kwh: Limited::new(kwh)?,
+            price: Limited::new(price)?,
+        })
     }
 
     // Its tenths.
     fn tenths(&self) -> i64
-        ensures value { result ≡ self.now.kwh *ℤ self.now.price }
+        ensures value { result ≡ self.now.kwh.value *ℤ self.now.price.value }
         ensures few { unsigned_abs result ≤ 49899501000 }
     {
-        match units::tenths_at(self.kwh, self.price) {
-            Some(tenths) => tenths,
-            None => unreachable(),
-        }
-    }
-
-    // A cell's tenths after it.
-    fn tenths_after(&self, cell: &Cell) -> i64
-        ensures { result ≡ cell.now.tenths +ℤ self.now.kwh *ℤ self.now.price }
-    {
-        cell.tenths + self.tenths()
+        units::tenths_at(self.kwh.value(), self.price.value()).unwrap()
     }
 
     // A cell after it.
     fn delivered_to(&self, cell: &Cell) -> PlainCell
-        ensures { result ≡ plain (regulated self.now.kwh self.now.price (figures cell.now)) }
+        ensures { result ≡ plain (regulated self.now.kwh.value self.now.price.value (figures cell.now)) }
     {
         let mut plain = cell.to_plain();
-        plain.regulating = cell.regulating + self.kwh;
-        plain.tenths = self.tenths_after(cell);
+        plain.regulating = cell.regulating + self.kwh.value();
+        plain.tenths = cell.tenths + self.tenths();
         plain
     }
 }
 
 impl Change for Delivery {
-    ghost change = { λ d. regulated d.kwh d.price };
+    ghost change = { λ d. regulated d.kwh.value d.price.value };
 
     fn of(&self, cell: &Cell) -> PlainCell {
         self.delivered_to(cell)
@@ -147,28 +132,12 @@ impl Change for Delivery {
 pub fn clear_cells(cells: &mut [PlainCell])
     ensures { cells.new ≡ replicate (length cells.old) blank }
 {
-    cells.fill(PlainCell {
-        position: 0,
-        regulating: 0,
-        tenths: 0,
-        metered: false,
-        reading: 0,
-        last: 0,
-    });
+    cells.fill(PlainCell::default());
 }
 
 // Clears hour records.
 pub fn clear_records(records: &mut [PlainRecord])
     ensures { records.new ≡ replicate (length records.old) (record_plain no_deliveries) }
 {
-    let none = PlainDeliveries {
-        kwh: 0,
-        total: 0,
-        delivered: false,
-        extreme: 0,
-    };
-    records.fill(PlainRecord {
-        upward: none,
-        downward: none,
-    });
+    records.fill(PlainRecord::default());
 }

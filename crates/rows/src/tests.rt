@@ -15,11 +15,7 @@ const CELL: PlainCell = PlainCell {
 // Beyond its limit, so that it counts as cleared.
 const BEYOND: PlainCell = PlainCell {
     position: 500_000,
-    regulating: 10,
-    tenths: -7,
-    metered: false,
-    reading: 0,
-    last: 5,
+    ..CELL
 };
 
 #[test]
@@ -70,8 +66,7 @@ fn a_delivery_downward(rt: HostRuntime) {
 fn clearing(rt: HostRuntime) {
     let mut row = [CELL, BEYOND];
     clear_cells(&mut row);
-    assert_eq!(rt; row[1].position, 0);
-    assert_eq!(rt; row[0].last, 0);
+    assert_eq!(rt; row, [PlainCell::default(); 2]);
     let some = PlainDeliveries {
         kwh: 3,
         total: 3,
@@ -83,6 +78,5 @@ fn clearing(rt: HostRuntime) {
         downward: some,
     }];
     clear_records(&mut records);
-    assert!(rt; !records[0].downward.delivered);
-    assert_eq!(rt; records[0].upward.kwh, 0);
+    assert_eq!(rt; records, [PlainRecord::default()]);
 }

@@ -2,8 +2,9 @@
 --
 --   pricing_map c      the map that a chosen pricing rule stands for
 --   sharing_map c      the map that a chosen sharing rule stands for
---   rules_checks p d s the checks of the three numbers, in order
+--   rules_checks p d s the checks of the three numbers, in order: those of the pricing rule, then that of the sharing rule
 --   rules_chosen p d s the rules that they pick, where the checks pass
+--   chosen o a         the refusal o, if there is one, or else what is chosen
 use Rattle.std.specs.Prelude.{ℕ, cond, List, [], ◌∷◌, ◌++◌, ℤ, pos, Some, None, Ok, Err, Option, Result, nat_le, unsigned_abs}
 use Rattle.pricing.specs.Prices.{PriceMap}
 use Rattle.pricing.specs.Rules.{ladder, regulating}

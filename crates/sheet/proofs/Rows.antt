@@ -1,12 +1,14 @@
 -- Rows gathered from cells, one by one. Assumes nothing.
-use Rattle.std.proofs.Common.{◌≡◌, ℕ, ◌+◌, ◌<◌, ◌≤◌, true, false, List, [], ◌∷◌, map, length, get_or, take, drop, set, is_some, Some, None, sym, refl, ap, ◌∙◌, subst, ⊎_elim, arith}
-use Rattle.std.proofs.lemmas.List.{get_or-set_same, get_or-set_other, at_drop_more, at_drop_all, get_or-take, get_or_past, length-take}
-use Rattle.std.proofs.lemmas.Bool.{cases_eq, cases_lt, cond-true, cond-false}
+use Rattle.std.proofs.Common.{◌≡◌, ℕ, ◌+◌, ◌<◌, ◌≤◌, Bool, true, not, ◌&&◌, cond, leb, ltb, ℤ, nat_abs, Option, List, [], ◌∷◌, map, length, get_or, set, is_none, Some, None, sym, refl, ap, ap₂, ◌∙◌, subst, ⊎_elim, arith}
+use lib.ListN.{length-map}
+use Rattle.std.specs.List.{position, prefix_len}
+use Rattle.std.proofs.lemmas.List.{get_or-set_same, get_or-set_other}
+use Rattle.std.specs.Prelude.{option_map}
+use Rattle.std.proofs.lemmas.Bool.{and_from, cases_eq, cond-true, le-leb}
 use Rattle.hourly.specs.declared.plain.PlainCell.{PlainCell}
-use Rattle.hourly.specs.Cells.{blank, read}
+use Rattle.hourly.specs.Cells.{CellFigures, read}
 use Rattle.sheet.specs.declared.row.Row.{Row}
-use Rattle.sheet.specs.Bounds.{RowWithin, RowsWithin, zero_row}
-use Rattle.sheet.specs.Gathering.{row_of, first_missing}
+use Rattle.sheet.specs.Gathering.{gather_refusal, known_hour, missing_reading, row_of}
 
 -- what holds of each element still does after one is written of which it holds
 pub each_set : {X : Type 0} (P : X → Type 0) (xs : List X) (i : ℕ) (x d : X) → i < length xs → ((k : ℕ) → P (get_or xs k d)) → P x → (k : ℕ) → P (get_or (set xs i x) k d)
@@ -21,24 +23,19 @@ pub rows-read : (cells : List PlainCell) → map (λ (p : PlainCell). row_of (re
 rows-read [] = refl
 rows-read (p ∷ cells) = ap (λ (rows : List Row). row_of (read p) ∷ rows) (rows-read cells)
 
--- the first missing reading, by the cell at i
-pub missing_here : (cells : List PlainCell) (i : ℕ) → i < length cells → is_some (read (get_or cells i blank)).reading ≡ false → first_missing (i + 1) (map read (drop i cells)) ≡ Some (i + 1)
-missing_here cells i h n =
-    at_drop_more (λ (xs : List PlainCell). first_missing (i + 1) (map read xs)) cells i blank h
-    ∙ cond-false (is_some (read (get_or cells i blank)).reading) _ _ n
+passes_map : (p : CellFigures → Bool) (cells : List PlainCell) → prefix_len p (map read cells) ≡ prefix_len (λ (c : PlainCell). p (read c)) cells
+passes_map p [] = refl
+passes_map p (c ∷ cells) = ap (λ n. cond (p (read c)) (1 + n) 0) (passes_map p cells)
 
-pub missing_more : (cells : List PlainCell) (i : ℕ) → i < length cells → is_some (read (get_or cells i blank)).reading ≡ true → first_missing (i + 1) (map read (drop i cells)) ≡ first_missing (i + 1 + 1) (map read (drop (i + 1) cells))
-missing_more cells i h t =
-    at_drop_more (λ (xs : List PlainCell). first_missing (i + 1) (map read xs)) cells i blank h
-    ∙ cond-true (is_some (read (get_or cells i blank)).reading) _ _ t
+-- the first missing reading, by the cells as they lie
+pub missing_at : (cells : List PlainCell) → position (λ (c : CellFigures). is_none c.reading) (map read cells) ≡ position (λ (c : PlainCell). is_none (read c).reading) cells
+missing_at cells = ap₂ (λ n l. cond (ltb n l) (Some n) None) (passes_map (λ c. not (is_none c.reading)) cells) (length-map cells read)
 
-pub missing_none : (cells : List PlainCell) (i : ℕ) → length cells ≤ i → first_missing (i + 1) (map read (drop i cells)) ≡ None
-missing_none cells i h = at_drop_all (λ (xs : List PlainCell). first_missing (i + 1) (map read xs)) cells i h
-
--- rows within the bounds, the first of them
-pub rows_taken : (rows : List Row) (n : ℕ) → RowsWithin rows → RowsWithin (take n rows)
-rows_taken rows n h k =
-    ⊎_elim
-    (λ lt. subst RowWithin (sym (get_or-take n rows k zero_row lt)) (h k))
-    (λ ge. subst RowWithin (sym (get_or_past (take n rows) k zero_row (omega (arith, length-take n rows)))) (omega arith, omega arith, omega arith, omega arith))
-    (cases_lt k n)
+-- where there are 1 to 20 cells and the hour is one of a day, the readings decide
+pub readings_decide : (hour : ℤ) (cells : List PlainCell) (o : Option ℕ) → 1 ≤ length cells → length cells ≤ 20 → known_hour hour ≡ true → o ≡ position (λ (c : PlainCell). is_none (read c).reading) cells → gather_refusal hour (map read cells) ≡ missing_reading (nat_abs hour) (option_map (λ i. i + 1) o)
+readings_decide hour cells o one few known e =
+    let l = length-map cells read in
+    let n = length (map read cells) in
+    cond-true (leb 1 n && leb n 20) _ _ (and_from (leb 1 n) (leb n 20) (le-leb 1 n (omega arith)) (le-leb n 20 (omega arith)))
+    ∙ cond-true (known_hour hour) _ _ known
+    ∙ ap (λ p. missing_reading (nat_abs hour) (option_map (λ i. i + 1) p)) (missing_at cells ∙ sym e)

@@ -1,17 +1,17 @@
 -- A remainder split by a lawful map: weights as signed numbers, parts on a page, and what they add up to. Assumes nothing.
-use Rattle.std.proofs.Common.{◌≡◌, ℕ, zero, suc, ◌+◌, ◌-◌, ◌<◌, ◌≤◌, Bool, true, false, cond, ltb, List, [], ◌∷◌, ◌++◌, map, length, get_or, take, replicate, ℤ, pos, ◌+ℤ◌, nat_abs, None, sym, refl, ap, ◌∙◌, subst, ⊎_elim, le_trans, not-suc-le-zero, arith}
+use Rattle.std.proofs.Common.{◌≡◌, ℕ, zero, suc, ◌+◌, ◌-◌, ◌<◌, ◌≤◌, Bool, true, false, cond, ltb, List, [], ◌∷◌, ◌++◌, map, length, get_or, take, replicate, ℤ, pos, ◌+ℤ◌, nat_abs, None, sym, refl, ap, ◌∙◌, subst, le_trans, not-suc-le-zero, arith}
 use lib.ListN.{length-map, length-replicate}
-use Rattle.std.proofs.lemmas.List.{get_or-map, get_or_past, take_at, replicate-append-replicate}
+use Rattle.std.proofs.lemmas.List.{get_or-map, take_at, replicate-append-replicate}
 use Rattle.std.proofs.lemmas.Int.{ints}
-use Rattle.std.proofs.lemmas.Bool.{cases_lt, cond_both, ltb-true}
+use Rattle.std.proofs.lemmas.Bool.{cond_both, ltb-true}
 use Rattle.units.specs.Sums.{page, sum_n, sum_z}
-use Rattle.units.proofs.Summing.{sum_z-page, zeros_at}
+use Rattle.units.proofs.Summing.{page-inside, sum_z-page, zeros_at}
 use Rattle.sharing.specs.Laws.{Lawful}
-use Rattle.sharing.specs.Limits.{refusal}
+use Rattle.sharing.specs.Limits.{refusal, Light}
 use Rattle.sharing.proofs.Parts.{page-within}
 use Rattle.sharing.proofs.Ranges.{accepted}
 use Rattle.sheet.specs.declared.row.Row.{Row}
-use Rattle.sheet.specs.Bounds.{RowsWithin, Within, zero_row}
+use Rattle.sheet.specs.Bounds.{Within}
 use Rattle.sheet.specs.Evaluation.{ShareMap, added, operator_by, parts_by, weight, weights}
 
 -- Weights
@@ -28,16 +28,17 @@ sum_z_pos (w ∷ ws) = ap (λ (z : ℤ). pos w +ℤ z) (sum_z_pos ws)
 pub weights_taken : (ws : List ℕ) (n : ℕ) → length ws ≡ n → take n (page (map pos ws)) ≡ map pos ws
 weights_taken ws n e = take_at (map pos ws) _ n (length-map ws pos ∙ e)
 
-light : (rows : List Row) → RowsWithin rows → (k : ℕ) → get_or (weights rows) k 0 ≤ 499999
-light rows h k =
-    ⊎_elim
-    (λ lt. subst (λ (w : ℕ). w ≤ 499999) (sym (get_or-map weight rows k zero_row 0 lt)) (h k).3)
-    (λ ge. subst (λ (w : ℕ). w ≤ 499999) (sym (get_or_past (weights rows) k 0 (omega (arith, length-map rows weight)))) (omega arith))
-    (cases_lt k (length rows))
+light : (ws : List ℕ) → length ws ≤ 20 → Within 499999 (page (map pos ws)) → Light ws
+light ws few h = record {
+  few = few;
+  each = λ k lt.
+      let e : get_or (page (map pos ws)) k (pos 0) ≡ pos (get_or ws k 0) = page-inside (map pos ws) k (omega (arith, length-map ws pos)) ∙ get_or-map pos ws k 0 (pos 0) lt in
+      omega (arith, ints, h k);
+}
 
 -- no rule refuses the remainder and the weights of an hour
-pub admitted : (n : ℤ) (rows : List Row) → nat_abs n ≤ 600000000000 → length rows ≤ 20 → RowsWithin rows → refusal n (map pos (weights rows)) ≡ None
-admitted n rows hn few h = accepted n (weights rows) hn record { few = omega (arith, length-map rows weight); each = λ k _. light rows h k }
+pub admitted : (n : ℤ) (ws : List ℕ) → nat_abs n ≤ 600000000000 → length ws ≤ 20 → Within 499999 (page (map pos ws)) → refusal n (map pos ws) ≡ None
+admitted n ws hn few h = accepted n ws hn (light ws few h)
 
 -- Lists added place by place
 
@@ -86,7 +87,7 @@ parts_make_up g laws n ws =
     (λ t. let z = sum_z_zeros (length ws) in omega (arith, ints))
 
 -- so they do on a page
-pub parts_whole : (g : ShareMap) → Lawful g → (n : ℤ) (ws : List ℕ) → sum_z (page (parts_by g n ws)) +ℤ operator_by n ws ≡ n
+parts_whole : (g : ShareMap) → Lawful g → (n : ℤ) (ws : List ℕ) → sum_z (page (parts_by g n ws)) +ℤ operator_by n ws ≡ n
 parts_whole g laws n ws = ap (λ (y : ℤ). y +ℤ operator_by n ws) (sum_z-page (parts_by g n ws)) ∙ parts_make_up g laws n ws
 
 -- every weight has a part
@@ -97,8 +98,19 @@ length-parts g laws n ws =
     (λ _. length-replicate (length ws) (pos 0))
 
 -- no part is larger than the remainder
-pub parts_small : (g : ShareMap) → Lawful g → (n : ℤ) (ws : List ℕ) (m : ℕ) → nat_abs n ≤ m → length ws ≤ 20 → Within m (page (parts_by g n ws))
+parts_small : (g : ShareMap) → Lawful g → (n : ℤ) (ws : List ℕ) (m : ℕ) → nat_abs n ≤ m → length ws ≤ 20 → Within m (page (parts_by g n ws))
 parts_small g laws n ws m h few k =
     cond_both (ltb 0 (sum_n ws)) (g n ws) (replicate (length ws) (pos 0)) (λ (xs : List ℤ). nat_abs (get_or (page xs) k (pos 0)) ≤ m)
     (λ _. le_trans (page-within g laws n ws k) h)
     (λ _. subst (λ (xs : List ℤ). nat_abs (get_or xs k (pos 0)) ≤ m) (sym (zero_page (length ws) few)) (subst (λ (z : ℤ). nat_abs z ≤ m) (sym (zeros_at 20 k)) (omega arith)))
+
+-- what is known of a page of parts: with the operator's part they make up the remainder, and none is larger than it may be
+pub record Divides (n : ℤ) (ws : List ℕ) (m : ℕ) (ps : List ℤ) : Type 0 where
+  pub whole : sum_z ps +ℤ operator_by n ws ≡ n
+  pub within : Within m ps
+
+pub divides : (g : ShareMap) → Lawful g → (n : ℤ) (ws : List ℕ) (m : ℕ) (ps : List ℤ) → nat_abs n ≤ m → length ws ≤ 20 → ps ≡ page (parts_by g n ws) → Divides n ws m ps
+divides g laws n ws m ps h few e = record {
+  whole = ap (λ (xs : List ℤ). sum_z xs +ℤ operator_by n ws) e ∙ parts_whole g laws n ws;
+  within = subst (Within m) (sym e) (parts_small g laws n ws m h few);
+}

@@ -59,13 +59,5 @@ make h imbalances system p firsts n w shares totals o = record { hour = h; imbal
 -- two sheets with the same figures are the same
 pub same-figures : (a b : SheetFigures) → a.hour ≡ b.hour → a.imbalances ≡ b.imbalances → a.system ≡ b.system → a.prices ≡ b.prices → a.firsts ≡ b.firsts → a.remainder ≡ b.remainder → a.weight ≡ b.weight → a.parts ≡ b.parts → a.amounts ≡ b.amounts → a.operator ≡ b.operator → a ≡ b
 same-figures a b e0 e1 e2 e3 e4 e5 e6 e7 e8 e9 =
-    ap (λ (x : HourFacts). make x a.imbalances a.system a.prices a.firsts a.remainder a.weight a.parts a.amounts a.operator) e0
-    ∙ ap (λ (x : List ℤ). make b.hour x a.system a.prices a.firsts a.remainder a.weight a.parts a.amounts a.operator) e1
-    ∙ ap (λ (x : ℤ). make b.hour b.imbalances x a.prices a.firsts a.remainder a.weight a.parts a.amounts a.operator) e2
-    ∙ ap (λ (x : Prices). make b.hour b.imbalances b.system x a.firsts a.remainder a.weight a.parts a.amounts a.operator) e3
-    ∙ ap (λ (x : List ℤ). make b.hour b.imbalances b.system b.prices x a.remainder a.weight a.parts a.amounts a.operator) e4
-    ∙ ap (λ (x : ℤ). make b.hour b.imbalances b.system b.prices b.firsts x a.weight a.parts a.amounts a.operator) e5
-    ∙ ap (λ (x : ℤ). make b.hour b.imbalances b.system b.prices b.firsts b.remainder x a.parts a.amounts a.operator) e6
-    ∙ ap (λ (x : List ℤ). make b.hour b.imbalances b.system b.prices b.firsts b.remainder b.weight x a.amounts a.operator) e7
-    ∙ ap (λ (x : List ℤ). make b.hour b.imbalances b.system b.prices b.firsts b.remainder b.weight b.parts x a.operator) e8
-    ∙ ap (λ (x : ℤ). make b.hour b.imbalances b.system b.prices b.firsts b.remainder b.weight b.parts b.amounts x) e9
+    let e : make a.hour a.imbalances a.system a.prices a.firsts a.remainder a.weight a.parts a.amounts a.operator ≡ make b.hour b.imbalances b.system b.prices b.firsts b.remainder b.weight b.parts b.amounts b.operator = cc in
+    e

@@ -1,5 +1,5 @@
 -- Gathering a sheet from the cells of an hour. Assumes nothing.
-use Rattle.std.specs.Prelude.{ℕ, ◌+◌, ◌-◌, ◌*◌, Bool, cond, ◌&&◌, List, [], ◌∷◌, ◌++◌, map, length, take, replicate, ℤ, pos, is_some, Some, None, Option, int_le, nat_le, unsigned_abs}
+use Rattle.std.specs.Prelude.{ℕ, ◌+◌, ◌-◌, ◌*◌, Bool, cond, ◌&&◌, List, [], ◌++◌, map, position, option_map, length, take, replicate, ℤ, pos, is_some, is_none, Some, None, Option, int_le, nat_le, unsigned_abs}
 use Rattle.refusals.specs.declared.Told.{Told}
 use Rattle.std.specs.Option.{unwrap_or}
 use Rattle.hourly.specs.Cells.{CellFigures}
@@ -18,10 +18,9 @@ told (Day day) = record { number = 2; place = day }
 told (Hour hour) = record { number = 3; place = hour }
 told (Reading hour party) = record { number = 10; place = pos (hour * 100 + party) }
 
--- the first party, counted on from p, whose reading is missing
-abbrev pub first_missing : ℕ → List CellFigures → Option ℕ
-first_missing p [] = None
-first_missing p (c ∷ cs) = cond (is_some c.reading) (first_missing (p + 1) cs) (Some p)
+-- the first party whose reading is missing; the party at place i is party i + 1
+abbrev pub first_missing : List CellFigures → Option ℕ
+first_missing cells = option_map (λ i. i + 1) (position (λ c. is_none c.reading) cells)
 
 -- the refusal of an hour whose cells are known: a missing reading, the lowest party first
 abbrev pub missing_reading : ℕ → Option ℕ → Option SheetRefusal
@@ -34,7 +33,7 @@ known_hour hour = int_le (pos 1) hour && int_le hour (pos 24)
 
 -- the refusal at gathering, if any: 1 to 20 parties, an hour of 1 to 24, and no reading missing
 abbrev pub gather_refusal : ℤ → List CellFigures → Option SheetRefusal
-gather_refusal hour cells = cond (nat_le 1 (length cells) && nat_le (length cells) 20) (cond (known_hour hour) (missing_reading (unsigned_abs hour) (first_missing 1 cells)) (Some (Hour hour))) (Some Parties)
+gather_refusal hour cells = cond (nat_le 1 (length cells) && nat_le (length cells) 20) (cond (known_hour hour) (missing_reading (unsigned_abs hour) (first_missing cells)) (Some (Hour hour))) (Some Parties)
 
 -- what an evaluation reads of a cell with a reading
 abbrev pub row_of : CellFigures → Row

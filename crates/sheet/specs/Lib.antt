@@ -2,4 +2,3 @@ pub mod Bounds
 pub mod Evaluation
 pub mod Gathering
 pub mod Sheets
-pub mod Firsts

@@ -2,7 +2,7 @@
 ghost use Rattle.std.specs.Prelude.{◌≡◌, map};
 ghost use Rattle.hourly.specs.Cells.{read};
 ghost use Rattle.hourly.specs.Records.{record_read};
-ghost use Rattle.sheet.specs.Gathering.{facts, gather_refusal};
+ghost use Rattle.sheet.specs.Gathering.{gather_refusal};
 ghost use Rattle.sheet.specs.Sheets.{Conserves, evaluated, hour_facts, written};
 
 use super::balanced::Balanced;
@@ -11,17 +11,8 @@ use hourly::plain::{PlainCell, PlainRecord};
 use pricing::Pricing;
 use sharing::Sharing;
 
-// The three steps, one after the other.
-fn through<P: Pricing, S: Sharing>(sheet: Gathered, pricing: &P, sharing: &S) -> Balanced
-    ensures refusal { result.priced.gathered ≡ sheet }
-    ensures evaluated { written result ≡ evaluated (P.Pricing.map pricing.now) (S.Sharing.map sharing.now) (facts sheet) }
-    ensures conserves { Conserves (P.Pricing.map pricing.now) (S.Sharing.map sharing.now) }
-{
-    sheet.price(pricing).balance(sharing)
-}
-
-// The same from the cells on.
-fn from_cells<P: Pricing, S: Sharing>(
+// The three steps, one after the other. The contract is that of `settle_hour`, which only calls this, so that a wrong call is refused there and not first in an answer.
+fn evaluate<P: Pricing, S: Sharing>(
     hour: i64,
     cells: &[PlainCell],
     deliveries: &PlainRecord,
@@ -32,7 +23,9 @@ fn from_cells<P: Pricing, S: Sharing>(
     ensures evaluated { written result ≡ evaluated (P.Pricing.map pricing.now) (S.Sharing.map sharing.now) (hour_facts hour (map read cells.now) (record_read deliveries.now)) }
     ensures conserves { Conserves (P.Pricing.map pricing.now) (S.Sharing.map sharing.now) }
 {
-    through(Gathered::gather(hour, cells, deliveries), pricing, sharing)
+    Gathered::gather(hour, cells, deliveries)
+        .price(pricing)
+        .balance(sharing)
 }
 
 // Evaluates an hour whose cells, one for each party in order, and regulating deliveries lie as plain numbers. Where gathering meets a refusal the sheet has no party, and carries it.
@@ -47,5 +40,5 @@ pub fn settle_hour<P: Pricing, S: Sharing>(
     ensures evaluated { written result ≡ evaluated (P.Pricing.map pricing.now) (S.Sharing.map sharing.now) (hour_facts hour (map read cells.now) (record_read deliveries.now)) }
     ensures conserves { Conserves (P.Pricing.map pricing.now) (S.Sharing.map sharing.now) }
 {
-    from_cells(hour, cells, deliveries, pricing, sharing)
+    evaluate(hour, cells, deliveries, pricing, sharing)
 }

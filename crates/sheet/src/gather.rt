@@ -1,9 +1,9 @@
 // Gathering: the rows of an hour from its cells.
-ghost use Rattle.std.specs.Prelude.{◌≡◌, ◌≤◌, [], map, length, take, replicate, Some, None};
+ghost use Rattle.std.specs.Prelude.{◌≡◌, ◌≤◌, [], map, length, take, replicate, is_none, Some, None, MatchResult, position};
 ghost use Rattle.hourly.specs.Cells.{read};
 ghost use Rattle.hourly.specs.Records.{record_read};
-ghost use Rattle.sheet.specs.Bounds.{RowWithin, RowsWithin, zero_row};
-ghost use Rattle.sheet.specs.Gathering.{facts, first_missing, gather_refusal, no_facts, row_of, row_page, rows_gathered, told};
+ghost use Rattle.sheet.specs.Bounds.{zero_row};
+ghost use Rattle.sheet.specs.Gathering.{facts, gather_refusal, no_facts, row_of, row_page, rows_gathered, told};
 
 use super::gathered::Gathered;
 use super::row::{Row, SheetRefusal};
@@ -30,8 +30,7 @@ impl Tells for SheetRefusal {
 
 // What an evaluation reads of a cell.
 fn row_at(p: &PlainCell) -> Row
-    ensures value { result ≡ row_of (read p.now) }
-    ensures within { RowWithin result }
+    ensures { result ≡ row_of (read p.now) }
 {
     let cell = Cell::from_plain(p);
     let reading = cell.reading.unwrap_or(0);
@@ -45,8 +44,7 @@ fn row_at(p: &PlainCell) -> Row
 
 // Rows of zeros.
 fn no_rows() -> [Row; 20]
-    ensures value { result ≡ replicate 20 zero_row }
-    ensures within { RowsWithin result }
+    ensures { result ≡ replicate 20 zero_row }
 {
     [Row {
         position: 0,
@@ -61,7 +59,6 @@ fn rows_of(cells: &[PlainCell]) -> [Row; 20]
     requires { length cells.now ≤ 20 }
     ensures page { result ≡ row_page (map row_of (map read cells.now)) }
     ensures value { take (length cells.now) result ≡ map row_of (map read cells.now) }
-    ensures within { RowsWithin result }
 {
     let mut rows = no_rows();
     for (i, cell) in cells.iter().enumerate() {
@@ -70,36 +67,36 @@ fn rows_of(cells: &[PlainCell]) -> [Row; 20]
     rows
 }
 
-// The first party whose reading is missing.
-fn missing_party(cells: &[PlainCell]) -> Option<u8>
-    requires { length cells.now ≤ 20 }
-    ensures { result ≡ first_missing 1 (map read cells.now) }
+// Whether a cell has no reading.
+fn lacks_reading(p: &PlainCell) -> bool
+    ensures { result ≡ is_none (read p.now).reading }
 {
-    for (i, cell) in cells.iter().enumerate() {
-        if Cell::from_plain(cell).reading.is_none() {
-            return Some(i as u8 + 1);
-        }
-    }
-    None
+    Cell::from_plain(p).reading.is_none()
 }
 
-// The refusal that gathering meets, if any.
-fn refusal_at(hour: i64, cells: &[PlainCell]) -> Option<SheetRefusal>
-    ensures value { result ≡ gather_refusal hour (map read cells.now) }
-    ensures few { result ≡ None → length cells.now ≤ 20 }
+// The place of the first cell that has no reading.
+fn first_without_reading(cells: &[PlainCell]) -> Option<usize>
+    ensures { result ≡ position (λ p. is_none (read p).reading) cells.now }
+{
+    cells.iter().position(lacks_reading)
+}
+
+// Refuses an hour that is not of a day or whose cells are not those of 1 to 20 parties, each with a reading.
+fn admit(hour: i64, cells: &[PlainCell]) -> Result<(), SheetRefusal>
+    ensures { MatchResult result (λ _. (gather_refusal hour (map read cells.now) ≡ None) × (length cells.now ≤ 20)) (λ e. gather_refusal hour (map read cells.now) ≡ Some e) }
 {
     if cells.is_empty() || cells.len() > 20 {
-        return Some(SheetRefusal::Parties);
+        return Err(SheetRefusal::Parties);
     }
     if hour < 1 || hour > 24 {
-        return Some(SheetRefusal::Hour { hour });
+        return Err(SheetRefusal::Hour { hour });
     }
-    match missing_party(cells) {
-        Some(party) => Some(SheetRefusal::Reading {
+    match first_without_reading(cells) {
+        Some(at) => Err(SheetRefusal::Reading {
             hour: hour as u8,
-            party,
+            party: at as u8 + 1,
         }),
-        None => None,
+        None => Ok(()),
     }
 }
 
@@ -112,21 +109,19 @@ impl Gathered {
         ensures deliveries { (facts result).deliveries ≡ record_read deliveries.now }
     {
         let deliveries = HourRecord::from_plain(deliveries);
-        if let Some(refusal) = refusal_at(hour, cells) {
-            let rows = no_rows();
-            return Gathered {
+        match admit(hour, cells) {
+            Ok(()) => Gathered {
+                count: cells.len(),
+                rows: rows_of(cells),
+                deliveries,
+                refusal: None,
+            },
+            Err(refusal) => Gathered {
                 count: 0,
-                rows,
+                rows: no_rows(),
                 deliveries,
                 refusal: Some(refusal),
-            };
-        }
-        let rows = rows_of(cells);
-        Gathered {
-            count: cells.len(),
-            rows,
-            deliveries,
-            refusal: None,
+            },
         }
     }
 

@@ -1,9 +1,9 @@
 // One hour, evaluated (docs/RULES.md, "One hour, evaluated"): a sheet is gathered, then priced, then balanced, and each step uses up the sheet before it.
 #![tactic(auto)]
 
-ghost use Rattle.std.specs.Prelude.{◌≡◌, ℕ, ◌*◌, ◌≤◌, map, length, ℤ, unsigned_abs};
+ghost use Rattle.std.specs.Prelude.{◌≡◌, ℕ, ◌*◌, ◌≤◌, map, ℤ, unsigned_abs};
 ghost use Rattle.units.specs.Sums.{page, sum_z};
-ghost use Rattle.sheet.specs.Bounds.{RowWithin, RowsWithin, Within};
+ghost use Rattle.sheet.specs.Bounds.{Within};
 ghost use Rattle.sheet.specs.Evaluation.{price_for};
 ghost use Rattle.sheet.specs.Gathering.{facts};
 ghost use Rattle.sheet.specs.declared.row.Row.{Row};
@@ -28,35 +28,33 @@ use row::Row;
 trait Figure {
     ghost figure: { Self → Row → ℤ };
 
-    ghost limit: { Self → ℕ };
+    ghost limit: { ℕ };
 
     fn of(&self, row: &Row) -> i64
-        requires { RowWithin row.now }
-        ensures { result ≡ figure self.now row.now };
+        ensures value { result ≡ figure self.now row.now }
+        ensures within { unsigned_abs result ≤ limit };
 
-    ghost limited: { (s : Self) (r : Row) → RowWithin r → unsigned_abs (figure s r) ≤ limit s };
+    ghost small: { limit ≤ 30000000000 };
 }
 
 // A figure of each row on a page of 20 places, 0 past the last row.
-fn figures_of<F: Figure>(figure: &F, rows: &[Row]) -> [i64; 20]
-    requires few { length rows.now ≤ 20 }
-    requires within { RowsWithin rows.now }
-    ensures value { result ≡ page (map (F.Figure.figure figure.now) rows.now) }
-    ensures bound { Within (F.Figure.limit figure.now) result }
+fn figures_of<F: Figure>(figure: &F, sheet: &Gathered) -> [i64; 20]
+    ensures value { result ≡ page (map (F.figure figure.now) (facts sheet.now).rows) }
+    ensures bound { Within F.limit result }
 {
     let mut figures = [0; 20];
-    for (i, row) in rows.iter().enumerate() {
+    for (i, row) in party_rows(sheet).iter().enumerate() {
         figures[i] = figure.of(row);
     }
     figures
 }
 
-// The sum of a page.
-fn sum(xs: &[i64; 20], limit: u64) -> i64
-    requires within { Within limit xs.now }
-    requires small { limit ≤ 30000000000 }
+// The sum of a page, which lies within 20 times any limit of its numbers.
+// A loop, since of an iterator's `sum` of signed numbers no bound is known.
+fn sum(xs: &[i64; 20]) -> i64
+    requires { Within 30000000000 xs.now }
     ensures value { result ≡ sum_z xs.now }
-    ensures bound { unsigned_abs result ≤ 20 * limit }
+    ensures bound { (limit : ℕ) → Within limit xs.now → unsigned_abs result ≤ 20 * limit }
 {
     let mut sum = 0;
     for x in xs {
@@ -72,19 +70,15 @@ struct Column {
     total: i64,
 }
 
-// The column of a figure that has a limit.
-fn totalled<F: Figure>(figure: &F, limit: u64, rows: &[Row]) -> Column
-    requires few { length rows.now ≤ 20 }
-    requires within { RowsWithin rows.now }
-    requires limited { limit ≡ F.Figure.limit figure.now }
-    requires small { limit ≤ 30000000000 }
-    ensures figures { result.figures ≡ page (map (F.Figure.figure figure.now) rows.now) }
-    ensures total { result.total ≡ sum_z (map (F.Figure.figure figure.now) rows.now) }
-    ensures each { Within limit result.figures }
-    ensures bound { unsigned_abs result.total ≤ 20 * limit }
+// The column of a figure.
+fn totalled<F: Figure>(figure: &F, sheet: &Gathered) -> Column
+    ensures figures { result.figures ≡ page (map (F.figure figure.now) (facts sheet.now).rows) }
+    ensures total { result.total ≡ sum_z (map (F.figure figure.now) (facts sheet.now).rows) }
+    ensures each { Within F.limit result.figures }
+    ensures bound { unsigned_abs result.total ≤ 20 * F.limit }
 {
-    let figures = figures_of(figure, rows);
-    let total = sum(&figures, limit);
+    let figures = figures_of(figure, sheet);
+    let total = sum(&figures);
     Column { figures, total }
 }
 
@@ -97,9 +91,7 @@ fn price_for(prices: &Prices, kwh: i64) -> i64
 
 // The rows of a sheet's parties.
 fn party_rows(sheet: &Gathered) -> &[Row]
-    ensures value { result.now ≡ (facts sheet.now).rows }
-    ensures few { length result.now ≤ 20 }
-    ensures within { RowsWithin result.now }
+    ensures { result.now ≡ (facts sheet.now).rows }
 {
-    &sheet.rows[0..sheet.count]
+    &sheet.rows[..sheet.count]
 }

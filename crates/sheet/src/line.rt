@@ -2,7 +2,7 @@
 use pricing::prices::Prices;
 
 // A party's line, from its cell to its amount: kWh, tenths, CZK/MWh, halers.
-#[derive(Clone, Copy)]
+#[derive(Clone, Copy, PartialEq, Eq, Debug)]
 pub struct Line {
     pub position: i64,
     pub regulating: i64,

@@ -1,4 +1,6 @@
-// What an evaluation reads of a party's hour: position, regulating kWh and tenths, and the reading, which is there.
+use std::marker::Model;
+
+// What an evaluation reads of a party's hour: position, regulating kWh and tenths, and the reading, which is there. None exists outside the bounds of a cell.
 #[derive(Clone, Copy)]
 pub struct Row {
     pub position: i64,
@@ -7,8 +9,20 @@ pub struct Row {
     pub reading: i64,
 }
 
+impl Model for Row {
+    ghost use Rattle.sheet.specs.Bounds.{RowFigures, RowWithin};
+
+    ghost Value = { RowFigures };
+
+    ghost view = { λ r. record { position = r.position; regulating = r.regulating; tenths = r.tenths; reading = r.reading } };
+
+    ghost invariant = { λ r. RowWithin (record { position = r.position; regulating = r.regulating; tenths = r.tenths; reading = r.reading }) };
+
+    ghost inverse = { λ f. record { position = f.position; regulating = f.regulating; tenths = f.tenths; reading = f.reading } };
+}
+
 // Why a sheet cannot be gathered.
-#[derive(Clone, Copy)]
+#[derive(Clone, Copy, PartialEq, Eq, Debug)]
 pub enum SheetRefusal {
     Parties,
     Day { day: i64 },

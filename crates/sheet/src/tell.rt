@@ -28,6 +28,16 @@ fn line_of(sheet: &Balanced, at: usize) -> Line
 }
 
 impl Balanced {
+    // The place of a party, counted from 0; none for a number that is not a party's.
+    fn place(&self, party: usize) -> Option<usize>
+        ensures { result ≡ (if nat_le 1 party && nat_le party self.now.priced.gathered.count then Some (party - 1) else None) }
+    {
+        if party < 1 || party > self.priced.gathered.count {
+            return None;
+        }
+        Some(party - 1)
+    }
+
     // The refusal that gathering met, if any, carried on to here.
     pub fn refusal(&self) -> Option<SheetRefusal>
         ensures { result ≡ self.now.priced.gathered.refusal }
@@ -39,20 +49,16 @@ impl Balanced {
     pub fn line(&self, party: usize) -> Option<Line>
         ensures { result ≡ (if nat_le 1 party && nat_le party self.now.priced.gathered.count then Some (line_at self.now (party - 1)) else None) }
     {
-        if party < 1 || party > self.priced.gathered.count {
-            return None;
-        }
-        Some(line_of(self, party - 1))
+        let at = self.place(party)?;
+        Some(line_of(self, at))
     }
 
     // A party's amount in halers; none for a number that is not a party's.
     pub fn amount(&self, party: usize) -> Option<i64>
         ensures { result ≡ (if nat_le 1 party && nat_le party self.now.priced.gathered.count then Some (slice_index_or self.now.amounts (party - 1) (pos 0)) else None) }
     {
-        if party < 1 || party > self.priced.gathered.count {
-            return None;
-        }
-        Some(self.amounts[party - 1])
+        let at = self.place(party)?;
+        Some(self.amounts[at])
     }
 
     // The hour as a whole.

@@ -1,13 +1,11 @@
 -- The value of decimal digits, digit by digit.
-use Rattle.std.proofs.Common.{◌≡◌, ℕ, ◌+◌, ◌-◌, ◌*◌, ◌^◌, ◌<◌, ◌≤◌, cond, List, [], ◌∷◌, ◌++◌, length, get_or, take, drop, sym, refl, ap, ◌∙◌, subst, mul_assoc, add-mul, pow-suc, add-one, arith}
+use Rattle.std.proofs.Common.{◌≡◌, ℕ, ◌+◌, ◌-◌, ◌*◌, ◌^◌, ◌<◌, ◌≤◌, List, [], ◌∷◌, ◌++◌, length, get_or, take, sym, ap, ◌∙◌, mul_assoc, add-mul, pow-suc, add-one, arith}
 use native.Mathlib.Nat.{pow-le-pow_right}
 use Rattle.std.specs.List.{All}
 use Rattle.std.proofs.lemmas.List.Elements.{All-get_or}
-use Rattle.std.proofs.lemmas.List.{take_more, take_rest, length_push}
-use Rattle.std.proofs.lemmas.Bool.{eq-eqb}
+use Rattle.std.proofs.lemmas.List.{take_more, length_push}
 use Rattle.brackets.specs.Bytes.{Digit}
 use Rattle.words.specs.Numbers.{decimal_value}
-use Rattle.words.specs.Walk.{NumberText}
 
 pub below : (n i k : ℕ) → i ≤ k → n < 10 ^ i → n < 10 ^ k
 below n i k h l = let p : 10 ^ i ≤ 10 ^ k = pow-le-pow_right (omega arith) h in omega arith
@@ -32,12 +30,3 @@ value_more ds i h = ap decimal_value (take_more ds i 0 h) ∙ value_push (take i
 
 pub digit_at : (ds : List ℕ) (i : ℕ) → i < length ds → All Digit ds → Digit (get_or ds i 0)
 digit_at ds i h a = All-get_or Digit ds i 0 h a
-
-pub minus_digits : (v : List ℕ) → get_or v 0 0 ≡ 45 → NumberText v → All Digit (take (length v - 1) (drop 1 v))
-minus_digits v e n =
-    subst (All Digit) (sym (take_rest v 1)) (subst (λ b. All Digit (drop (cond b 1 0) v)) (eq-eqb (get_or v 0 0) 45 e) n.1)
-
-pub single : (v : List ℕ) → length v ≡ 1 → get_or v 0 0 ≡ 48 → decimal_value v ≡ 0
-single [] l e = refl
-single (c ∷ []) l e = omega arith
-single (c ∷ d ∷ v) l e = absurd (omega arith)

@@ -1,14 +1,11 @@
 -- Where the head and the fields of a form lie, and how many numbers it has.
-use Rattle.std.proofs.Common.{◌≡◌, ℕ, ◌+◌, ◌-◌, ◌≤◌, false, List, [], ◌∷◌, ◌++◌, map, length, take, drop, sym, refl, ap, ◌∙◌, arith, Bor}
+use Rattle.std.proofs.Common.{◌≡◌, ℕ, ◌+◌, ◌-◌, false, List, [], ◌∷◌, ◌++◌, map, length, take, drop, sym, refl, ap, ◌∙◌, arith, Bor}
 use Rattle.std.specs.List.{before_first}
 use Rattle.std.proofs.lemmas.List.{drop-drop, drop_at, take_rest, length-map}
 use Rattle.std.proofs.lemmas.List.Elements.{All-weaker}
 use Rattle.std.proofs.lemmas.Bool.Decides.{nat_tests}
 use Rattle.brackets.specs.Bytes.{Letter}
 use Rattle.brackets.specs.Grammar.{Field, rest, IsForm}
-use Rattle.words.specs.declared.reading.Kind.{Kind}
-use Rattle.words.specs.declared.reading.Kind.TheVariants.{Book, Deposit, Withdraw, Register, Market, Close, Regulate, Meter, Evaluate, Show}
-use Rattle.words.specs.Heads.{field_names}
 use Rattle.words.specs.Layer.{name_of, names_of}
 use Rattle.words.specs.Walk.{stops, FieldsAt}
 use Rattle.words.proofs.Cutting.{word_is}
@@ -36,15 +33,3 @@ count_is xs ns e = sym (length-map xs (λ x. x.now)) ∙ ap length e
 -- and of the fields that have them
 pub as_many : (fields : List Field) (ns : List (List ℕ)) → names_of fields ≡ ns → length fields ≡ length ns
 as_many fields ns e = sym (length-map fields name_of) ∙ ap length e
-
-pub few_names : (k : Kind) → length (field_names k) ≤ 8
-few_names Book = omega arith
-few_names Deposit = omega arith
-few_names Withdraw = omega arith
-few_names Register = omega arith
-few_names Market = omega arith
-few_names Close = omega arith
-few_names Regulate = omega arith
-few_names Meter = omega arith
-few_names Evaluate = omega arith
-few_names Show = omega arith

@@ -17,9 +17,6 @@ pub record Read (line : List ℕ) (fs : List Field) (start count i at : ℕ) (vs
   pub same : first_malformed fs start ≡ first_malformed left at
   pub got : map field_value fs ≡ take i vs ++ map field_value left
 
-pub read_none : (line : List ℕ) (fs : List Field) (start count : ℕ) (vs : List ℤ) → FieldsAt line start fs → length fs ≡ count → Read line fs start count 0 start vs
-read_none line fs start count vs h e = record { left = fs; here = h; long = omega arith; same = refl; got = refl }
-
 -- a field is next
 pub next_is : (line : List ℕ) (at : ℕ) (gs : List Field) → FieldsAt line at gs → 0 < length gs → (f : Field) × (fs : List Field) × FieldAt line at f fs
 next_is line at [] h n = absurd (omega arith)

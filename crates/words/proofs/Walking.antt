@@ -2,7 +2,7 @@
 use Rattle.std.proofs.Common.{◌≡◌, ℕ, ◌+◌, ◌-◌, ◌<◌, ◌≤◌, Bool, true, false, List, [], ◌∷◌, length, get_or, drop, Ok, Err, sym, refl, ap, ◌∙◌, subst, ⊎_elim, add-zero, arith, length-drop, Bor}
 use Rattle.std.specs.Str.{bytes_eq}
 use Rattle.std.proofs.lemmas.Slice.Eq.{bytes_eq-Decides}
-use Rattle.std.proofs.lemmas.List.{get_or-drop, drop_more, drop_all}
+use Rattle.std.proofs.lemmas.List.{get_or-drop, drop_more}
 use Rattle.std.proofs.lemmas.Bool.{cond-true, cond-false, cases_Bool}
 use Rattle.brackets.specs.Grammar.{Field, rest}
 use Rattle.words.specs.declared.reading.Token.TheVariants.{Word, Number}
@@ -20,10 +20,6 @@ some (f ∷ fs) = omega arith
 
 pub inside : (line : List ℕ) (at : ℕ) (fs : List Field) → FieldsAt line at fs → at < length line
 inside line at fs h = let l = sym (length-drop at line) ∙ ap length h.1 in omega (arith, some fs)
-
-pub at_last : (line : List ℕ) (at : ℕ) (name : List ℕ) (fs : List Field) → get_or line at 0 ≡ 41 → FieldsAt line at fs → Err (at + 1) ≡ one_named name fs at
-at_last line at name [] e h = refl
-at_last line at name (f ∷ fs) e h = let z = first line at (f ∷ fs) h in absurd (omega arith)
 
 pub at_field : (line : List ℕ) (at : ℕ) (fs : List Field) → (get_or line at 0 ≡ 41 → ⊥) → FieldsAt line at fs → (f : Field) × (gs : List Field) × FieldAt line at f gs
 at_field line at [] e h = absurd (e (first line at [] h))
@@ -69,9 +65,6 @@ pub record Walked (line : List ℕ) (ns : List (List ℕ)) (fs : List Field) (st
   pub here : FieldsAt line at left
   pub same : all_named ns fs start ≡ all_named (drop i ns) left at
 
-pub walked_none : (line : List ℕ) (ns : List (List ℕ)) (fs : List Field) (start : ℕ) → FieldsAt line start fs → Walked line ns fs start 0 start
-walked_none line ns fs start h = record { left = fs; here = h; same = refl }
-
 step_ok : (line : List ℕ) (at : ℕ) (name : List ℕ) (ns : List (List ℕ)) (fs : List Field) (n : ℕ) → FieldsAt line at fs → Ok n ≡ one_named name fs at → (gs : List Field) × FieldsAt line n gs × (all_named (name ∷ ns) fs at ≡ all_named ns gs n)
 step_ok line at name ns [] n h e = let z : ◌≡◌ {A = ℕ} 0 1 = cc in absurd (omega arith)
 step_ok line at name ns (f ∷ gs) n h e =
@@ -104,19 +97,3 @@ walked_more line ns fs start i at n lt told w =
 pub walked_err : (line : List ℕ) (ns : List (List ℕ)) (fs : List Field) (start i at col : ℕ) → i < length ns → ((gs : List Field) → FieldsAt line at gs → Err col ≡ one_named (get_or ns i []) gs at) → Walked line ns fs start i at → Err col ≡ all_named ns fs start
 walked_err line ns fs start i at col lt told w =
     step_err at (get_or ns i []) (drop (i + 1) ns) w.left col (told w.left w.here) ∙ sym (w.same ∙ ap (λ l. all_named l w.left at) (drop_more ns i [] lt))
-
-end_ok : (line : List ℕ) (at : ℕ) (fs : List Field) → FieldsAt line at fs → get_or line at 0 ≡ 41 → Ok at ≡ all_named [] fs at
-end_ok line at [] h e = refl
-end_ok line at (f ∷ fs) h e = let z = first line at (f ∷ fs) h in absurd (omega arith)
-
-end_err : (line : List ℕ) (at : ℕ) (fs : List Field) → FieldsAt line at fs → (get_or line at 0 ≡ 41 → ⊥) → Err (at + 2) ≡ all_named [] fs at
-end_err line at [] h e = absurd (e (first line at [] h))
-end_err line at (f ∷ fs) h e = refl
-
-pub walked_ok : (line : List ℕ) (ns : List (List ℕ)) (fs : List Field) (start i at : ℕ) → length ns ≤ i → get_or line at 0 ≡ 41 → Walked line ns fs start i at → Ok at ≡ all_named ns fs start
-walked_ok line ns fs start i at le e w =
-    end_ok line at w.left w.here e ∙ sym (w.same ∙ ap (λ l. all_named l w.left at) (drop_all i ns le))
-
-pub walked_surplus : (line : List ℕ) (ns : List (List ℕ)) (fs : List Field) (start i at : ℕ) → length ns ≤ i → (get_or line at 0 ≡ 41 → ⊥) → Walked line ns fs start i at → Err (at + 2) ≡ all_named ns fs start
-walked_surplus line ns fs start i at le e w =
-    end_err line at w.left w.here e ∙ sym (w.same ∙ ap (λ l. all_named l w.left at) (drop_all i ns le))

@@ -14,6 +14,7 @@ pub enum WordFault {
     Number { column: u8 },
 }
 
+// By hand: a clause of `read` rests on what a `?` makes of the fault, which no derive states.
 impl From<BracketFault> for WordFault {
     ghost from_gives = { λ f r. r ≡ Bracket f };
 

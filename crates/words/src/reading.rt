@@ -1,5 +1,5 @@
 // From the bytes of a line to its form.
-ghost use Rattle.std.specs.Prelude.{◌≡◌, ℕ, ◌<◌, ◌≤◌, List, ◌∷◌, map, length, take, pos, if◌then◌else◌, Some, None, Ok, Err, Decides, MatchOption, MatchResult};
+ghost use Rattle.std.specs.Prelude.{◌≡◌, ◌<◌, ◌≤◌, List, ◌∷◌, map, length, take, pos, if◌then◌else◌, Some, None, Ok, Err, MatchOption, MatchResult};
 ghost use Rattle.std.specs.List.{All, before_first, position_from};
 ghost use Rattle.brackets.specs.Bytes.{Digit};
 ghost use Rattle.brackets.specs.Grammar.{Field};
@@ -17,7 +17,7 @@ use crate::form::Form;
 use brackets::brackets;
 use entries::entry::Entry;
 
-// The value of at most 18 digits.
+// The value of at most 18 digits. A loop, since the closure of a `fold` would not know that the value so far is short.
 fn magnitude(digits: &[u8]) -> i64
     requires few { length digits.now ≤ 18 }
     requires all { All Digit digits.now }
@@ -76,22 +76,6 @@ fn word(rest: &[u8]) -> &[u8]
     &rest[..len]
 }
 
-// The field at `at`, where the space before it stands.
-fn field<'a>(line: &'a [u8], at: usize) -> Tokens<'a>
-    requires short { length line.now ≤ 200 }
-    requires some { (f : Field) × (fs : List Field) × FieldAt line.now at f fs }
-    ensures { (f : Field) (fs : List Field) → FieldAt line.now at f fs → Took at f result }
-{
-    let name = word(&line[at + 2..]);
-    let after = at + 3 + name.len();
-    let number = word(&line[after..]);
-    Tokens {
-        name: Token::Word(name, (at + 3) as u8),
-        number: Token::Number(number, (after + 1) as u8),
-        next: after + number.len() + 1,
-    }
-}
-
 // The forms, by their heads.
 #[derive(Clone, Copy)]
 enum Kind {
@@ -145,73 +129,91 @@ fn names(kind: Kind) -> &'static [&'static [u8]]
     }
 }
 
-// The place after the field at `at`, if it has this name; else the column of its bracket, or of the last bracket if there is none.
-fn named(line: &[u8], at: usize, name: &[u8]) -> Result<usize, u8>
-    requires short { length line.now ≤ 200 }
-    requires some { (fs : List Field) × FieldsAt line.now at fs }
-    ensures { (fs : List Field) → FieldsAt line.now at fs → result ≡ one_named name.now fs at }
-{
-    if line[at] == b')' {
-        return Err((at + 1) as u8);
-    }
-    let tokens = field(line, at);
-    match tokens.name {
-        Token::Word(text, column) => {
-            if text == name {
-                Ok(tokens.next)
-            } else {
-                Err(column - 1)
-            }
+// A line of so few bytes that a column of it fits a `u8`.
+#[derive(Clone, Copy)]
+struct Line<'a> {
+    bytes: &'a [u8],
+    ghost short: { length bytes.now ≤ 200 },
+}
+
+impl<'a> Line<'a> {
+    // The field at `at`, where the space before it stands.
+    fn field(self, at: usize) -> Tokens<'a>
+        requires { (f : Field) × (fs : List Field) × FieldAt self.bytes.now at f fs }
+        ensures { (f : Field) (fs : List Field) → FieldAt self.entry.bytes.now at f fs → Took at f result }
+    {
+        let name = word(&self.bytes[at + 2..]);
+        let after = at + 3 + name.len();
+        let number = word(&self.bytes[after..]);
+        Tokens {
+            name: Token::Word(name, (at + 3) as u8),
+            number: Token::Number(number, (after + 1) as u8),
+            next: after + number.len() + 1,
         }
-        Token::Number(_, column) => Err(column),
     }
-}
 
-// The place of the last bracket, if the fields from `start` on have these names; else the column of the first fault.
-fn all_named(line: &[u8], start: usize, names: &[&[u8]]) -> Result<usize, u8>
-    requires short { length line.now ≤ 200 }
-    requires some { (fs : List Field) × FieldsAt line.now start fs }
-    ensures { (fs : List Field) → FieldsAt line.now start fs → result ≡ all_named (map (λ x. x.now) names.now) fs start }
-{
-    let mut at = start;
-    for name in names {
-        at = named(line, at, name)?;
+    // The place after the field at `at`, if it has this name; else the column of its bracket, or of the last bracket if there is none.
+    fn named(self, at: usize, name: &[u8]) -> Result<usize, u8>
+        requires { (fs : List Field) × FieldsAt self.bytes.now at fs }
+        ensures { (fs : List Field) → FieldsAt self.entry.bytes.now at fs → result ≡ one_named name.now fs at }
+    {
+        if self.bytes[at] == b')' {
+            return Err((at + 1) as u8);
+        }
+        let tokens = self.field(at);
+        match tokens.name {
+            Token::Word(text, column) => {
+                if text == name {
+                    Ok(tokens.next)
+                } else {
+                    Err(column - 1)
+                }
+            }
+            Token::Number(_, column) => Err(column),
+        }
     }
-    if line[at] == b')' {
-        Ok(at)
-    } else {
-        Err((at + 2) as u8)
-    }
-}
 
-// The value of the number at `at` and the place after its field, or the number's column if it is malformed.
-fn value(line: &[u8], at: usize) -> Result<(i64, usize), u8>
-    requires short { length line.now ≤ 200 }
-    requires some { (f : Field) × (fs : List Field) × FieldAt line.now at f fs }
-    ensures { (f : Field) (fs : List Field) → FieldAt line.now at f fs → result ≡ one_read (f ∷ fs) at }
-{
-    let tokens = field(line, at);
-    match tokens.number {
-        Token::Number(text, column) => Ok((number(text).ok_or(column)?, tokens.next)),
-        Token::Word(_, column) => Err(column),
+    // The place of the last bracket, if the fields from `start` on have these names; else the column of the first fault.
+    fn all_named(self, start: usize, names: &[&[u8]]) -> Result<usize, u8>
+        requires { (fs : List Field) × FieldsAt self.bytes.now start fs }
+        ensures { (fs : List Field) → FieldsAt self.entry.bytes.now start fs → result ≡ all_named (map (λ x. x.now) names.now) fs start }
+    {
+        let mut at = start;
+        for name in names {
+            at = self.named(at, name)?;
+        }
+        if self.bytes[at] == b')' {
+            Ok(at)
+        } else {
+            Err((at + 2) as u8)
+        }
     }
-}
 
-// The values of the `count` fields from `start` on, or the column of the first number that is malformed.
-fn values(line: &[u8], start: usize, count: usize) -> Result<[i64; 8], u8>
-    requires short { length line.now ≤ 200 }
-    requires few { count ≤ 8 }
-    requires some { (fs : List Field) × FieldsAt line.now start fs × (length fs ≡ count) }
-    ensures { (fs : List Field) → FieldsAt line.now start fs → length fs ≡ count → MatchResult result (λ vs. (first_malformed fs start ≡ None) × (take count vs ≡ map field_value fs)) (λ col. first_malformed fs start ≡ Some col) }
-{
-    let mut vs = [0i64; 8];
-    let mut at = start;
-    for i in 0..count {
-        let (z, next) = value(line, at)?;
-        vs[i] = z;
-        at = next;
+    // The value of the number at `at` and the place after its field, or the number's column if it is malformed.
+    fn value(self, at: usize) -> Result<(i64, usize), u8>
+        requires { (f : Field) × (fs : List Field) × FieldAt self.bytes.now at f fs }
+        ensures { (f : Field) (fs : List Field) → FieldAt self.entry.bytes.now at f fs → result ≡ one_read (f ∷ fs) at }
+    {
+        let tokens = self.field(at);
+        match tokens.number {
+            Token::Number(text, column) => Ok((number(text).ok_or(column)?, tokens.next)),
+            Token::Word(_, column) => Err(column),
+        }
     }
-    Ok(vs)
+
+    // The values of the `count` fields from `start` on, or the column of the first number that is malformed.
+    fn values(self, start: usize, count: usize) -> Result<[i64; 8], u8>
+        requires few { count ≤ 8 }
+        requires some { (fs : List Field) × FieldsAt self.bytes.now start fs × (length fs ≡ count) }
+        ensures { (fs : List Field) → FieldsAt self.entry.bytes.now start fs → length fs ≡ count → MatchResult result (λ vs. (first_malformed fs start ≡ None) × (take count vs ≡ map field_value fs)) (λ col. first_malformed fs start ≡ Some col) }
+    {
+        let mut vs = [0i64; 8];
+        let mut at = start;
+        for v in &mut vs[..count] {
+            (*v, at) = self.value(at)?;
+        }
+        Ok(vs)
+    }
 }
 
 // The form of this kind with these numbers.
@@ -270,33 +272,28 @@ fn form_of(kind: Kind, v: &[i64; 8]) -> Form
     }
 }
 
-// Whether the line has the shape of a form; a bracket fault is carried on whole.
-fn shaped(line: &[u8]) -> Result<(), WordFault>
-    ensures { MatchResult result (λ _. Brackets line.now (Ok tt)) (λ f. Answers line.now (Err f)) }
-{
-    brackets(line)?;
-    Ok(())
-}
-
 // The kind of the form on the line and the place after its head, unless the head is unknown.
-fn head(line: &[u8]) -> Option<(Kind, usize)>
-    requires { Brackets line.now (Ok tt) }
-    ensures { MatchOption result (Answers line.now (Err Head)) (λ p. HeadAt line.now p.0 p.1) }
+fn head(line: Line) -> Option<(Kind, usize)>
+    requires { Brackets line.bytes.now (Ok tt) }
+    ensures { MatchOption result (Answers line.entry.bytes.now (Err Head)) (λ p. HeadAt line.entry.bytes.now p.0 p.1) }
 {
-    let name = word(&line[1..]);
+    let name = word(&line.bytes[1..]);
     let kind = kind_of(name)?;
     Some((kind, 1 + name.len()))
 }
 
 // The form of this kind whose fields begin at `start`.
-fn fields(line: &[u8], kind: Kind, start: usize) -> Result<Form, WordFault>
-    requires shaped { Brackets line.now (Ok tt) }
-    requires headed { HeadAt line.now kind start }
-    ensures { Answers line.now result }
+fn fields(line: Line, kind: Kind, start: usize) -> Result<Form, WordFault>
+    requires shaped { Brackets line.bytes.now (Ok tt) }
+    requires headed { HeadAt line.bytes.now kind start }
+    ensures { Answers line.entry.bytes.now result }
 {
     let expected = names(kind);
-    all_named(line, start, expected).map_err(|column| WordFault::Field { column })?;
-    let vs = values(line, start, expected.len()).map_err(|column| WordFault::Number { column })?;
+    line.all_named(start, expected)
+        .map_err(|column| WordFault::Field { column })?;
+    let vs = line
+        .values(start, expected.len())
+        .map_err(|column| WordFault::Number { column })?;
     Ok(form_of(kind, &vs))
 }
 
@@ -306,7 +303,8 @@ pub fn read(line: &[u8]) -> Result<Form, WordFault>
     ensures once { Once line.now result }
     ensures back { ReadsBack line.now result }
 {
-    shaped(line)?;
+    brackets(line)?;
+    let line = Line { bytes: line };
     let (kind, start) = head(line).ok_or(WordFault::Head)?;
     fields(line, kind, start)
 }

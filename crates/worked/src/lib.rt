@@ -22,11 +22,9 @@ fn metered_cell(position: i64, reading: i64) -> PlainCell
 {
     PlainCell {
         position,
-        regulating: 0,
-        tenths: 0,
         metered: true,
         reading,
-        last: 0,
+        ..PlainCell::default()
     }
 }
 
@@ -41,12 +39,10 @@ pub fn worked_cells(hour: WorkedHour) -> [PlainCell; 2]
         WorkedHour::Corrected => [metered_cell(1_000, 900), metered_cell(-1_000, -1_000)],
         WorkedHour::Unmetered => {
             let delivers = PlainCell {
-                position: 0,
                 regulating: 100,
                 tenths: 200_000,
                 metered: true,
-                reading: 0,
-                last: 0,
+                ..PlainCell::default()
             };
             [delivers, metered_cell(0, 0)]
         }

@@ -74,7 +74,7 @@ impl Journal<'_> {
     {
         match &mut self.stage {
             Stage::Empty(pages) => {
-                let opening = asked(&self.limits, pages.cells.len(), pages.records.len(), form)?;
+                let opening = asked(&self.limits, pages, form)?;
                 let pages = Pages {
                     cells: mem::take(&mut pages.cells),
                     records: mem::take(&mut pages.records),

@@ -4,7 +4,6 @@ use Rattle.std.proofs.lemmas.List.{take_all}
 use Rattle.units.specs.Sums.{page}
 use Rattle.units.proofs.Summing.{length-page}
 use Rattle.sheet.specs.declared.row.Row.{Row}
-use Rattle.sheet.specs.Bounds.{zero_row}
 use Rattle.sheet.proofs.Columns.{column_more}
 use Rattle.sheet.proofs.Rows.{each_set}
 use Rattle.sheet.proofs.figures_of.Goals as goal
@@ -12,21 +11,25 @@ use Rattle.sheet.proofs.figures_of.Goals as goal
 pub loop-i-preserved : goal.loop-i-preserved
 loop-i-preserved g c =
     let i = c.loop-i.i in
-    let rows = c.args.rows.now in
+    let s = c.args.sheet.now in
+    let rows = c.party_rows-row-items.result.now in
     let ps = c.loop-i.figures in
     let f = g.F.Figure.figure c.args.figure.now in
-    let n = g.F.Figure.limit c.args.figure.now in
+    let n = g.F.Figure.limit in
+    let few : length rows ≤ 20 = omega (arith, ap length c.party_rows-row-items.ensures, length-take s.count s.rows, s.few) in
     let z : to_z w64 (of_z w64 c.of.result) ≡ c.of.result = search rules in
-    let v = z ∙ c.of.ensures in
+    let v = z ∙ c.of.ensures.value in
     let ys = map f (take i rows) in
-    let l : i < length ps = omega (arith, ap length c.loop-i.invariant.0, length-page ys (omega (arith, length-map (take i rows) f, length-take i rows, c.requires.few)), c.requires.few) in
-    let small = subst (λ (x : ℤ). nat_abs x ≤ n) (sym v) (g.met.F.Figure.limited c.args.figure.now _ (c.requires.within i)) in (
-      column_more (pos 0) f rows i zero_row ps _ c.loop-i-test.true c.requires.few c.loop-i.invariant.0 v,
-      each_set (λ (x : ℤ). nat_abs x ≤ n) ps i _ (pos 0) l c.loop-i.invariant.1 small,
+    let l : i < length ps = omega (arith, ap length c.loop-i.invariant.0, length-page ys (omega (arith, length-map (take i rows) f, length-take i rows)), c.loop-i-test.true) in (
+      column_more (pos 0) f rows i c.row-item.result ps _ c.loop-i-test.true few c.loop-i.invariant.0 (v ∙ ap f c.row-item.is),
+      each_set (λ (x : ℤ). nat_abs x ≤ n) ps i _ (pos 0) l c.loop-i.invariant.1 (subst (λ (x : ℤ). nat_abs x ≤ n) (sym z) c.of.ensures.within),
     )
 
 pub returns : goal.returns
-returns g c = record {
-  value = c.loop-i.invariant.0 ∙ ap (λ (rs : List Row). page (map (g.F.Figure.figure c.args.figure.now) rs)) (take_all c.loop-i.i c.args.rows.now c.loop-i-test.false);
-  bound = c.loop-i.invariant.1;
-}
+returns g c =
+    let f = g.F.Figure.figure c.args.figure.now in
+    let rows = c.party_rows-row-items.result.now in
+    record {
+      value = c.loop-i.invariant.0 ∙ ap (λ (rs : List Row). page (map f rs)) (take_all c.loop-i.i rows c.loop-i-test.false ∙ c.party_rows-row-items.ensures);
+      bound = c.loop-i.invariant.1;
+    }

@@ -4,4 +4,4 @@ use Rattle.sheet.specs.Bounds.{Within}
 use Rattle.sheet.proofs.figures_of.Given as goal
 
 abbrev pub invariant-loop-i : goal.invariant-loop-i
-invariant-loop-i g l = (l.figures ≡ page (map (g.F.Figure.figure l.figure) (take l.i l.rows))) × Within (g.F.Figure.limit l.figure) l.figures
+invariant-loop-i g l = (l.figures ≡ page (map (g.F.Figure.figure l.figure) (take l.i l.row-items))) × Within g.F.Figure.limit l.figures

@@ -1,12 +1,13 @@
-use Rattle.std.proofs.Common.{◌≡◌, ℕ, List, map, length, take, Some, None, Ok, Err, Result, MatchResult, sym, refl, ap, ◌∙◌, subst, rules}
+use Rattle.std.proofs.Common.{Bor, ℤ, ◌≡◌, ℕ, List, map, length, take, Some, None, Ok, Err, Result, MatchResult, sym, refl, ap, ◌∙◌, subst, rules}
 use Rattle.std.specs.Result.{IsErrAnd}
 use Rattle.std.proofs.lemmas.Result.{err_from_is_err_and}
 use Rattle.brackets.specs.Grammar.{Field}
 use Rattle.words.specs.declared.faults.WordFault.{WordFault}
 use Rattle.words.specs.declared.faults.WordFault.TheVariants.{Field as Misnamed, Number as Malformed}
+use Rattle.words.specs.declared.reading.Kind.{Kind}
 use Rattle.words.specs.Heads.{head_text, field_names}
 use Rattle.words.specs.Layer.{names_of}
-use Rattle.words.specs.Walk.{all_named, field_value, first_malformed}
+use Rattle.words.specs.Walk.{FieldsAt, all_named, field_value, first_malformed}
 use Rattle.words.specs.Written.{Answers}
 use Rattle.words.proofs.Once.{answers}
 use Rattle.words.proofs.Joining.{fields_at, count_is, as_many}
@@ -32,28 +33,36 @@ mapped_ok (Err e) f (Err y) x m h = absurd (cc)
 told : (r : Result ℕ ℕ) (ns ms : List (List ℕ)) (fields : List Field) (at s : ℕ) → ns ≡ ms → at ≡ s → r ≡ all_named ns fields at → r ≡ all_named ms fields s
 told r ns ms fields at s e f h = h ∙ (λ i. all_named (e i) fields (f i))
 
+-- what the fields are where their names are right
+right : (line : List ℕ) (names : List (Bor (List ℕ))) (k : Kind) (r : Result ℕ ℕ) (end start : ℕ) → map (λ x. x.now) names ≡ field_names k → ((fs : List Field) → FieldsAt line start fs → r ≡ all_named (map (λ x. x.now) names) fs start) → r ≡ Ok end → (fs : List Field) → FieldsAt line start fs → (names_of fs ≡ field_names k) × (length fs ≡ length names)
+right line names k r end start e walk ok fs h =
+    let n : names_of fs ≡ field_names k = all_right _ fs start end (sym ok ∙ walk fs h) ∙ e in
+    (n, as_many fs (field_names k) n ∙ sym (count_is names (field_names k) e))
+
+-- what `values` says of a result
+abbrev Read : List Field → ℕ → ℕ → Result (List ℤ) ℕ → Type 0
+Read fs start count r = MatchResult r (λ vs. (first_malformed fs start ≡ None) × (take count vs ≡ map field_value fs)) (λ col. first_malformed fs start ≡ Some col)
+
 pub returns-in_err-map_err : goal.returns-in_err-map_err
 returns-in_err-map_err c =
     let p = err_from_is_err_and c.from_residual.result c.from_residual.ensures.1 in
     let named : Mapped c.all_named.result Misnamed c.map_err.result = search rules in
     let m = mapped_err c.all_named.result Misnamed c.map_err.result c.in_err-map_err.field-0.0 named c.in_err-map_err.was in
     let e : c.from_residual.result ≡ Err (Misnamed m.0) = p.1 ∙ ap Err (p.2 ∙ m.2) in
-    subst (Answers c.args.line.now) (sym e) (answers c.args.line.now (Err (Misnamed m.0)) (
+    subst (Answers c.args.line.bytes.now) (sym e) (answers c.args.line.bytes.now (Err (Misnamed m.0)) (
       c.requires.shaped,
       λ head fields h.
           let q = c.requires.headed head fields h in
-          (c.args.kind, q.0, misfit (field_names c.args.kind) head fields m.0 (told _ _ _ fields _ _ c.names-expected.ensures q.1 (sym m.1 ∙ c.all_named.ensures fields (fields_at c.args.line.now head fields c.args.start h q.1)))),
+          (c.args.kind, q.0, misfit (field_names c.args.kind) head fields m.0 (told _ _ _ fields _ _ c.names-expected.ensures q.1 (sym m.1 ∙ c.all_named.ensures fields (fields_at c.args.line.bytes.now head fields c.args.start h q.1)))),
     ))
 
 pub values-requires-clause-some : goal.values-requires-clause-some
 values-requires-clause-some c =
     let b = c.requires.shaped in
-    let p = c.requires.headed b.2.0 b.2.1 b.2.2 in
-    let f = fields_at c.args.line.now b.2.0 b.2.1 c.args.start b.2.2 p.1 in
-    let n = count_is c.names-expected.result.now (field_names c.args.kind) c.names-expected.ensures in
+    let f = fields_at c.args.line.bytes.now b.2.0 b.2.1 c.args.start b.2.2 (c.requires.headed b.2.0 b.2.1 b.2.2).1 in
     let named : Mapped c.all_named.result Misnamed c.map_err.result = search rules in
     let ok = mapped_ok c.all_named.result Misnamed c.map_err.result c.in_ok-map_err.field-0 named c.in_ok-map_err.was in
-    (b.2.1, f, as_many b.2.1 _ (all_right _ b.2.1 _ _ (sym ok ∙ c.all_named.ensures b.2.1 f)) ∙ ap length c.names-expected.ensures ∙ sym n)
+    (b.2.1, f, (right c.args.line.bytes.now c.names-expected.result.now c.args.kind _ _ c.args.start c.names-expected.ensures c.all_named.ensures ok b.2.1 f).1)
 
 pub returns-in_err-vs : goal.returns-in_err-vs
 returns-in_err-vs c =
@@ -63,16 +72,14 @@ returns-in_err-vs c =
     let read : Mapped c.values.result Malformed c.map_err-2.result = search rules in
     let m = mapped_err c.values.result Malformed c.map_err-2.result c.in_err-vs.field-0.0 read c.in_err-vs.was in
     let e : c.from_residual-in_err-vs.result ≡ Err (Malformed m.0) = p.1 ∙ ap Err (p.2 ∙ m.2) in
-    subst (Answers c.args.line.now) (sym e) (answers c.args.line.now (Err (Malformed m.0)) (
+    subst (Answers c.args.line.bytes.now) (sym e) (answers c.args.line.bytes.now (Err (Malformed m.0)) (
       c.requires.shaped,
       λ head fields h.
           let q = c.requires.headed head fields h in
-          let f = fields_at c.args.line.now head fields c.args.start h q.1 in
-          let n = count_is c.names-expected.result.now (field_names c.args.kind) c.names-expected.ensures in
-          let right : names_of fields ≡ field_names c.args.kind = all_right _ fields _ _ (sym ok ∙ c.all_named.ensures fields f) ∙ c.names-expected.ensures in
-          let l = as_many fields (field_names c.args.kind) right ∙ sym n in
-          let bad : first_malformed fields c.args.start ≡ Some m.0 = subst (λ r. MatchResult r (λ vs. (first_malformed fields c.args.start ≡ None) × (take (length c.names-expected.result.now) vs ≡ map field_value fields)) (λ col. first_malformed fields c.args.start ≡ Some col)) m.1 (c.values.ensures fields f l) in
-          (c.args.kind, q.0, right, first_unsound head fields m.0 h.1 (ap (first_malformed fields) (sym q.1) ∙ bad)),
+          let f = fields_at c.args.line.bytes.now head fields c.args.start h q.1 in
+          let n = right c.args.line.bytes.now c.names-expected.result.now c.args.kind _ _ c.args.start c.names-expected.ensures c.all_named.ensures ok fields f in
+          let bad = subst (Read fields c.args.start (length c.names-expected.result.now)) m.1 (c.values.ensures fields f n.1) in
+          (c.args.kind, q.0, n.0, first_unsound head fields m.0 h.1 (ap (first_malformed fields) (sym q.1) ∙ bad)),
     ))
 
 pub returns : goal.returns
@@ -81,14 +88,13 @@ returns c =
     let ok = mapped_ok c.all_named.result Misnamed c.map_err.result c.in_ok-map_err.field-0 named c.in_ok-map_err.was in
     let read : Mapped c.values.result Malformed c.map_err-2.result = search rules in
     let got = mapped_ok c.values.result Malformed c.map_err-2.result c.in_ok-vs.vs read c.in_ok-vs.was in
-    answers c.args.line.now (Ok c.form_of.result) (
+    answers c.args.line.bytes.now (Ok c.form_of.result) (
       c.requires.shaped,
       λ head fields h.
-          let p = c.requires.headed head fields h in
-          let f = fields_at c.args.line.now head fields c.args.start h p.1 in
-          let n = count_is c.names-expected.result.now (field_names c.args.kind) c.names-expected.ensures in
-          let right : names_of fields ≡ field_names c.args.kind = all_right _ fields _ _ (sym ok ∙ c.all_named.ensures fields f) ∙ c.names-expected.ensures in
-          let l = as_many fields (field_names c.args.kind) right ∙ sym n in
-          let v : (first_malformed fields c.args.start ≡ None) × (take (length c.names-expected.result.now) c.in_ok-vs.vs ≡ map field_value fields) = subst (λ r. MatchResult r (λ vs. (first_malformed fields c.args.start ≡ None) × (take (length c.names-expected.result.now) vs ≡ map field_value fields)) (λ col. first_malformed fields c.args.start ≡ Some col)) got (c.values.ensures fields f l) in
-          (p.0 ∙ ap head_text (sym c.form_of.ensures.kind), right ∙ ap field_names (sym c.form_of.ensures.kind), all_sound fields c.args.start h.1 v.0, sym (values_are fields h.1) ∙ sym v.1 ∙ ap (λ m. take m c.in_ok-vs.vs) n ∙ sym c.form_of.ensures.numbers),
+          let q = c.requires.headed head fields h in
+          let f = fields_at c.args.line.bytes.now head fields c.args.start h q.1 in
+          let n = right c.args.line.bytes.now c.names-expected.result.now c.args.kind _ _ c.args.start c.names-expected.ensures c.all_named.ensures ok fields f in
+          let v = subst (Read fields c.args.start (length c.names-expected.result.now)) got (c.values.ensures fields f n.1) in
+          let many = ap (λ m. take m c.in_ok-vs.vs) (count_is c.names-expected.result.now (field_names c.args.kind) c.names-expected.ensures) in
+          (q.0 ∙ ap head_text (sym c.form_of.ensures.kind), n.0 ∙ ap field_names (sym c.form_of.ensures.kind), all_sound fields c.args.start h.1 v.0, sym (values_are fields h.1) ∙ sym v.1 ∙ many ∙ sym c.form_of.ensures.numbers),
     )

@@ -9,13 +9,13 @@ use Rattle.words.proofs.reading.head.Goals as goal
 
 pub returns : goal.returns
 returns c head fields h =
-    let name : c.word-name.result.now ≡ head = c.word-name.ensures ∙ head_is c.args.line.now head fields h in
+    let name : c.word-name.result.now ≡ head = c.word-name.ensures ∙ head_is c.args.line.bytes.now head fields h in
     (sym name ∙ c.in_ok-kind.ensures, ap (λ w. 1 + length w) name)
 
 pub returns-in_err-kind : goal.returns-in_err-kind
 returns-in_err-kind c =
-    let unknown : Answers c.args.line.now (Err Head) = answers c.args.line.now (Err Head) (
+    let unknown : Answers c.args.line.bytes.now (Err Head) = answers c.args.line.bytes.now (Err Head) (
       c.requires,
-      λ head fields h k is. c.in_err-kind.ensures k (c.word-name.ensures ∙ head_is c.args.line.now head fields h ∙ is),
+      λ head fields h k is. c.in_err-kind.ensures k (c.word-name.ensures ∙ head_is c.args.line.bytes.now head fields h ∙ is),
     ) in
-    subst (λ r. MatchOption r (Answers c.args.line.now (Err Head)) (λ p. HeadAt c.args.line.now p.0 p.1)) (sym c.from_residual.ensures) unknown
+    subst (λ r. MatchOption r (Answers c.args.line.bytes.now (Err Head)) (λ p. HeadAt c.args.line.bytes.now p.0 p.1)) (sym c.from_residual.ensures) unknown

@@ -7,9 +7,6 @@ use Rattle.words.proofs.reading.magnitude.Goals as goal
 pub overflow_mul-n : goal.overflow_mul-n
 overflow_mul-n c = omega (arith, below c.loop-d.n c.loop-d.d-index 17 (omega arith) c.loop-d.invariant.1)
 
-pub overflow_sub-n : goal.overflow_sub-n
-overflow_sub-n c = (digit_at c.args.digits.now c.loop-d.d-index (omega arith) c.requires.all).0
-
 pub overflow_add-n : goal.overflow_add-n
 overflow_add-n c =
     omega (arith, below c.loop-d.n c.loop-d.d-index 17 (omega arith) c.loop-d.invariant.1, digit_at c.args.digits.now c.loop-d.d-index (omega arith) c.requires.all)
