@@ -149,6 +149,8 @@ fn sold(seller: i64, buyer: i64, kwh: i64, of: usize) -> i64
     side(buyer, minus(kwh), of)
 }
 
+// That an entry is `Sane` is said of it and of the ledger's sizes together: a type that kept it would hold the sizes too, and each clause would then say that they are
+// the ledger's. kWh are numbers with their bound in a clause, since of a `Limited` the same kWh the other way would have to be made and asked anew.
 impl Ledger<'_> {
     // What an entry adds to the cash of a party.
     fn paid(&self, entry: &Entry, of: usize) -> i64

@@ -232,6 +232,7 @@ impl Ledger<'_> {
     }
 }
 
+// Parties, days and hours come as an entry has them: a struct of them would be made in `write` only to be taken apart in each of these.
 impl Ledger<'_> {
     // Adds halers to the cash of a party.
     fn credit(&mut self, party: i64, halers: i64)

@@ -14,6 +14,7 @@ use crate::book::{Book, Ledger};
 use crate::index;
 use crate::statement::Statement;
 use cover::prices::ParametricPrices;
+use entries::check_party;
 use entries::refusal::Refusal;
 use needs::need;
 use pricing::Pricing;
@@ -56,11 +57,7 @@ impl<P: Pricing, S: Sharing> Book<'_, P, S> {
         ensures value { result ≡ verdict (show_refusal (terms_by P.Pricing.map S.Sharing.map self.now) (held self.now) party) }
         ensures known { IfOk result (λ _. index party < self.now.ledger.sizes.parties) }
     {
-        let sizes = self.ledger.sizes();
-        if !(1..=i64::from(sizes.parties)).contains(&party) {
-            return Err(Refusal::UnknownParty { party });
-        }
-        Ok(())
+        check_party(&self.ledger.sizes(), party)
     }
 
     // The statement of a party, which alters nothing.

@@ -46,7 +46,8 @@ fn regulating_kwh(kwh: i64) -> bool
     between(-MOST_KWH, MOST_KWH, kwh) && kwh != 0
 }
 
-fn check_party(sizes: &Sizes, party: i64) -> Result<(), Refusal>
+// Row 1 of the table of one party.
+pub fn check_party(sizes: &Sizes, party: i64) -> Result<(), Refusal>
     ensures { result ≡ checked (party_check sizes.now party ∷ []) }
 {
     let last = i64::from(sizes.parties);
@@ -85,7 +86,7 @@ fn check_apart(seller: i64, buyer: i64) -> Result<(), Refusal>
     require(seller != buyer, Refusal::SellerIsBuyer { party: seller })
 }
 
-// Row 1 of the table.
+// Row 1.
 fn check_parties(sizes: &Sizes, entry: &Entry) -> Result<(), Refusal>
     ensures { result ≡ checked (map (party_check sizes.now) (parties_of entry.now)) }
 {

@@ -15,7 +15,7 @@ pub mod reply;
 mod tests;
 
 use entry::{DayState, Entry};
-pub use fields::check_fields;
+pub use fields::{check_fields, check_party};
 use refusal::Refusal;
 use refusals::{Tells, Told};
 

@@ -14,6 +14,7 @@ pub enum Refusal {
     NotOpened,
 }
 
+// By hand: a clause rests on what a `?` makes of the fault, which no derive states.
 impl From<WordFault> for Refusal {
     ghost from_gives = { λ f r. r ≡ Words f };
 

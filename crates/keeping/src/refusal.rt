@@ -20,6 +20,7 @@ pub enum Refusal {
     Book(BookRefusal),
 }
 
+// Both by hand: clauses rest on what a `?` makes of a fault or a refusal, which no derive states.
 impl From<WordFault> for Refusal {
     ghost from_gives = { λ f r. r ≡ Words f };
 

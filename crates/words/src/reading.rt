@@ -202,6 +202,7 @@ impl<'a> Line<'a> {
     }
 
     // The values of the `count` fields from `start` on, or the column of the first number that is malformed.
+    // They lie in an array and no list: the kind says how many there are, and `form_of` takes them by patterns, which a list has none of.
     fn values(self, start: usize, count: usize) -> Result<[i64; 8], u8>
         requires few { count ≤ 8 }
         requires some { (fs : List Field) × FieldsAt self.bytes.now start fs × (length fs ≡ count) }
