@@ -12,11 +12,6 @@ returns-clause-value g c =
     c.need_after.ensures.value
     ∙ ap (λ (n : ℕ). cond (fits (length days) (length cells)) (Some (pos (rounded_up n))) None) (untraded_tenths g.D.Counts.counts g.D.Counts.past c.args.prices.now.hours days cells t.start t.end t.kwh c.none.ensures)
 
-pub returns-clause-least : goal.returns-clause-least
-returns-clause-least g c = λ fitting.
-    let t = c.none.result.trade in
-    subst (λ (n : ℕ). RoundedUp n (rounded_up n)) (untraded_tenths g.D.Counts.counts g.D.Counts.past c.args.prices.now.hours c.args.days.now c.args.cells.now t.start t.end t.kwh c.none.ensures) (c.need_after.ensures.least fitting)
-
 pub returns-clause-bound : goal.returns-clause-bound
 returns-clause-bound g c = λ fitting.
     let table = c.args.prices.now in

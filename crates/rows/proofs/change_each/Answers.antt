@@ -16,9 +16,3 @@ loop-cell-preserved g c =
     let m : i < length ys = omega arith in
     ap (set ys i) {y = f x} c.changed.ensures ∙ map_over_more f xs ys i x l c.loop-cell.invariant (get_or_default ys i blank x m)
 
-pub returns : goal.returns
-returns g c =
-    let f = relaid (g.C.Change.change c.args.change.now) in
-    let i = c.loop-cell.cell-index in
-    let xs = c.args.row.now in
-    c.loop-cell.invariant ∙ ap₂ (λ us vs. map f us ++ vs) (take_all i xs (omega arith)) (drop_all i xs (omega arith)) ∙ append-nil (map f xs)

@@ -29,18 +29,3 @@ loop-i-preserved g c =
       c.enter.ensures.sharing ∙ c.loop-i.invariant.2,
     )
 
-pub returns : goal.returns
-returns g c =
-    let f = g.P.Pricing.map in
-    let k = g.S.Sharing.map in
-    let a = c.args.book.now in
-    let es = c.args.entries.now in
-    let m = terms_by f k a in
-    let end : c.loop-i.i ≡ length es = omega arith in
-    let w = entered_all m (held a) es c.args.replies.now c.loop-i.i (held c.loop-i.book) c.loop-i.replies end c.loop-i.invariant.0 in
-    record {
-      held = w.0;
-      replies = w.1;
-      pricing = c.loop-i.invariant.1;
-      sharing = c.loop-i.invariant.2;
-    }

@@ -25,11 +25,3 @@ loop-i-preserved g c =
       each_set (λ (x : ℤ). nat_abs x ≤ n) ps i _ (pos 0) l c.loop-i.invariant.1 (subst (λ (x : ℤ). nat_abs x ≤ n) (sym z) c.of.ensures.within),
     )
 
-pub returns : goal.returns
-returns g c =
-    let f = g.F.Figure.figure c.args.figure.now in
-    let rows = c.party_rows-row-items.result.now in
-    record {
-      value = c.loop-i.invariant.0 ∙ ap (λ (rs : List Row). page (map f rs)) (take_all c.loop-i.i rows c.loop-i-test.false ∙ c.party_rows-row-items.ensures);
-      bound = c.loop-i.invariant.1;
-    }

@@ -6,23 +6,6 @@ use Rattle.book.specs.Held.{Fits, Held, cell_at, standing_on}
 use Rattle.book.proofs.HourRows.{listed_is}
 use Rattle.book.proofs.book.Ledger.hour_cells.Goals as goal
 
-pub loop-party-preserved : goal.loop-party-preserved
-loop-party-preserved c =
-    let h = c.args.self.now in
-    let fits : Fits h = subst Fits c.self.view_is c.self.invariant in
-    let same : c.self.inside.sizes.parties ≡ h.sizes.parties = ap (λ (g : Held). g.sizes.parties) c.self.view_is in
-    let i = c.loop-party.party in
-    let xs = c.loop-party.cells in
-    let f = λ (k : ℕ). get_or h.cells (cell_at h.sizes k c.args.day c.args.hour) blank in
-    let at : c.row_at.result + c.args.hour ≡ cell_at h.sizes i c.args.day c.args.hour = search rules in
-    let e : get_or c.self.inside.pages.cells.now (c.row_at.result + c.args.hour) blank ≡ f i =
-    ap (λ (g : Held). get_or g.cells (c.row_at.result + c.args.hour) blank) c.self.view_is ∙ ap (λ k. get_or h.cells k blank) at in
-    let twenty : length xs ≡ 20 = c.loop-party.invariant.1 in
-    let l : i < length xs = omega arith in (
-      (λ k m. ap (λ (x : PlainCell). get_or (set xs i x) k blank) e ∙ fill_by_more f xs i blank l c.loop-party.invariant.0 k m),
-      length-set xs i _ ∙ twenty,
-    )
-
 pub returns : goal.returns
 returns c =
     let h = c.args.self.now in

@@ -23,7 +23,3 @@ loop-v-preserved c =
     let long : c.loop-v.v-index < length c.loop-v.v-items = omega (arith, c.loop-v.invariant.0) in
     (length-set c.loop-v.v-items c.loop-v.v-index _ ∙ c.loop-v.invariant.0, λ fs h l. subst (λ z. Read c.args.self.bytes.now fs c.args.start c.args.count (c.loop-v.v-index + 1) c.in_ok-v.field-0-1 (set c.loop-v.v-items c.loop-v.v-index z)) (sym e) (read_more c.args.self.bytes.now fs c.args.start c.args.count c.loop-v.v-index c.loop-v.at c.in_ok-v.field-0-1 c.in_ok-v.field-0-0 c.loop-v.v-items long less c.in_ok-v.ensures (c.loop-v.invariant.1 fs h l)))
 
-pub returns : goal.returns
-returns c fs h l =
-    let r = read_all c.args.self.bytes.now fs c.args.start c.args.count c.loop-v.v-index c.loop-v.at c.loop-v.v-items (omega arith) (c.loop-v.invariant.1 fs h l) in
-    (r.0, take_at c.loop-v.v-items _ c.args.count c.loop-v.invariant.0 ∙ sym (take_all c.args.count c.loop-v.v-items (omega arith)) ∙ r.1)
