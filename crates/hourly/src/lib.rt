@@ -52,6 +52,7 @@ impl PlainCell {
     }
 }
 
+// By hand, as that of deliveries: no derive writes it for a struct with a ghost field.
 impl Default for Cell {
     ghost is_default = { λ c. figures c ≡ cleared };
 
@@ -207,17 +208,6 @@ impl<D: Direction> Deliveries<D> {
             return None;
         }
         Some(self.with_delivery(kwh, price))
-    }
-}
-
-impl Default for HourRecord {
-    ghost is_default = { λ r. record_figures r ≡ no_deliveries };
-
-    fn default() -> HourRecord {
-        HourRecord {
-            upward: Deliveries::default(),
-            downward: Deliveries::default(),
-        }
     }
 }
 

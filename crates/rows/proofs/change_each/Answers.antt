@@ -15,4 +15,3 @@ loop-cell-preserved g c =
     let l : i < length xs = omega arith in
     let m : i < length ys = omega arith in
     ap (set ys i) {y = f x} c.changed.ensures ∙ map_over_more f xs ys i x l c.loop-cell.invariant (get_or_default ys i blank x m)
-

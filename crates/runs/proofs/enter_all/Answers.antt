@@ -28,4 +28,3 @@ loop-i-preserved g c =
       c.enter.ensures.pricing ∙ c.loop-i.invariant.1,
       c.enter.ensures.sharing ∙ c.loop-i.invariant.2,
     )
-

@@ -24,4 +24,3 @@ loop-i-preserved g c =
       column_more (pos 0) f rows i c.row-item.result ps _ c.loop-i-test.true few c.loop-i.invariant.0 (v ∙ ap f c.row-item.is),
       each_set (λ (x : ℤ). nat_abs x ≤ n) ps i _ (pos 0) l c.loop-i.invariant.1 (subst (λ (x : ℤ). nat_abs x ≤ n) (sym z) c.of.ensures.within),
     )
-

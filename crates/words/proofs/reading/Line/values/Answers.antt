@@ -22,4 +22,3 @@ loop-v-preserved c =
     let less : c.loop-v.v-index < c.args.count = omega (arith, c.loop-v.auto.v-items) in
     let long : c.loop-v.v-index < length c.loop-v.v-items = omega (arith, c.loop-v.invariant.0) in
     (length-set c.loop-v.v-items c.loop-v.v-index _ ∙ c.loop-v.invariant.0, λ fs h l. subst (λ z. Read c.args.self.bytes.now fs c.args.start c.args.count (c.loop-v.v-index + 1) c.in_ok-v.field-0-1 (set c.loop-v.v-items c.loop-v.v-index z)) (sym e) (read_more c.args.self.bytes.now fs c.args.start c.args.count c.loop-v.v-index c.loop-v.at c.in_ok-v.field-0-1 c.in_ok-v.field-0-0 c.loop-v.v-items long less c.in_ok-v.ensures (c.loop-v.invariant.1 fs h l)))
-
