@@ -24,7 +24,6 @@ use cover::prices::ParametricPrices;
 use entries::entry::Entry;
 use entries::refusal::Refusal;
 use entries::{check_fields, next_state};
-use hourly::cell::Cell;
 use hourly::lies_within;
 use hourly::plain::{PlainCell, PlainRecord};
 use hourly::record::HourRecord;
@@ -50,14 +49,6 @@ fn sale_cash(seller: i64, buyer: i64, halers: i64, of: usize) -> i64
     side(seller, halers, of) + side(buyer, -halers, of)
 }
 
-// The position of a cell that lies as plain numbers.
-fn position_of(cell: &PlainCell) -> i64
-    ensures value { result ≡ (read cell.now).position }
-    ensures placed { unsigned_abs result ≤ 499999 }
-{
-    Cell::from_plain(cell).position
-}
-
 // Whether a position has room for kWh more.
 fn takes(position: i64, kwh: i64) -> bool
     requires { (unsigned_abs position ≤ 499999) × (unsigned_abs kwh ≤ 499000) }
@@ -71,7 +62,7 @@ fn has_room(cell: &PlainCell, kwh: i64) -> bool
     requires { unsigned_abs kwh ≤ 499000 }
     ensures { result ≡ within 499999 ((read cell.now).position +ℤ kwh) }
 {
-    takes(position_of(cell), kwh)
+    takes(cell.position(), kwh)
 }
 
 // Whether a sale in one hour would take a position beyond its limit.
@@ -85,8 +76,9 @@ fn beyond(seller: &PlainCell, buyer: &PlainCell, kwh: i64) -> bool
     !has_room(buyer, minus(kwh))
 }
 
-// A sale in a range of hours: where the rows of seller and buyer start, its first hour and how many it has, and kWh.
-#[derive(Clone, Copy)]
+// A sale in a range of hours: where the rows of seller and buyer start, its first hour and how many it has, and kWh. That of an entry which sells nothing has no hours,
+// so that whatever goes over them finds nothing: no `Option` is asked first.
+#[derive(Clone, Copy, Default)]
 struct Sale {
     seller: usize,
     buyer: usize,
@@ -206,13 +198,7 @@ impl Ledger<'_> {
                 hours: hours(*from, *to) as usize,
                 kwh: *kwh,
             },
-            _ => Sale {
-                seller: 0,
-                buyer: 0,
-                from: 0,
-                hours: 0,
-                kwh: 0,
-            },
+            _ => Sale::default(),
         }
     }
 
@@ -248,11 +234,7 @@ impl Ledger<'_> {
                     kwh: sold(*seller, *buyer, *kwh, of),
                 }
             }
-            _ => Trade {
-                start: 0,
-                end: 0,
-                kwh: 0,
-            },
+            _ => Trade::default(),
         }
     }
 

@@ -160,6 +160,7 @@ impl Ledger<'_> {
         ensures few { result < 1488 }
         ensures inside { result < length self.now.records }
     {
+        // read, so that its bounds are known
         let _ = &self.sizes;
         index(day) * 24 + index(hour)
     }
@@ -232,7 +233,7 @@ impl Ledger<'_> {
     }
 }
 
-// Parties, days and hours come as an entry has them: a struct of them would be made in `write` only to be taken apart in each of these.
+// Parties, days, hours, kWh and prices come as an entry has them, here and in what the checks ask: a struct of them would be made only to be taken apart in each of these.
 impl Ledger<'_> {
     // Adds halers to the cash of a party.
     fn credit(&mut self, party: i64, halers: i64)

@@ -1,5 +1,5 @@
 // The sheet of an hour of a book (docs/RULES.md, "One hour, evaluated").
-ghost use Rattle.std.specs.Prelude.{◌≡◌, ◌-◌, ◌<◌, ◌≤◌, map, length, take, None};
+ghost use Rattle.std.specs.Prelude.{◌≡◌, ◌-◌, ◌<◌, ◌≤◌, map, length, take, MatchResult, Some, None};
 ghost use Rattle.hourly.specs.Cells.{read};
 ghost use Rattle.hourly.specs.Records.{record_read};
 ghost use Rattle.sheet.specs.Gathering.{facts, gather_refusal, rows_gathered};
@@ -63,29 +63,28 @@ impl<P: Pricing, S: Sharing> Book<'_, P, S> {
         sheet_from(hour, &cells, ledger.sizes.parties as usize, &lying)
     }
 
-    // The refusal of a day or an hour that the book does not have: an `Option`, as a sheet holds it.
-    fn unknown_hour(&self, day: i64, hour: i64) -> Option<SheetRefusal>
-        ensures value { result ≡ unknown_hour (terms_by P.Pricing.map S.Sharing.map self.now) (held self.now) day hour }
-        ensures passed { result ≡ None → (index day < self.now.ledger.sizes.days) × (index hour < 24) }
+    // Refuses a day or an hour that the book does not have.
+    fn check_hour(&self, day: i64, hour: i64) -> Result<(), SheetRefusal>
+        ensures { MatchResult result (λ _. (unknown_hour (terms_by P.Pricing.map S.Sharing.map self.now) (held self.now) day hour ≡ None) × (index day < self.now.ledger.sizes.days) × (index hour < 24)) (λ e. unknown_hour (terms_by P.Pricing.map S.Sharing.map self.now) (held self.now) day hour ≡ Some e) }
     {
         let sizes = self.ledger.sizes();
         if !(1..=i64::from(sizes.days)).contains(&day) {
-            return Some(SheetRefusal::Day { day });
+            return Err(SheetRefusal::Day { day });
         }
         if !(1..=24).contains(&hour) {
-            return Some(SheetRefusal::Hour { hour });
+            return Err(SheetRefusal::Hour { hour });
         }
-        None
+        Ok(())
     }
 
-    // The sheet of an hour, or one that met a refusal.
+    // The sheet of an hour, or one that met a refusal. Its contract is that of `gather`: a public function has no proof file of its own.
     fn sheet_of(&self, day: i64, hour: i64) -> Gathered
         ensures refusal { result.refusal ≡ hour_gather_refusal (terms_by P.Pricing.map S.Sharing.map self.now) (held self.now) day hour }
         ensures facts { facts result ≡ gathered_facts (terms_by P.Pricing.map S.Sharing.map self.now) (held self.now) day hour }
     {
-        match self.unknown_hour(day, hour) {
-            Some(refusal) => Gathered::refused(refusal),
-            None => self.gather_hour(day, hour),
+        match self.check_hour(day, hour) {
+            Ok(()) => self.gather_hour(day, hour),
+            Err(refusal) => Gathered::refused(refusal),
         }
     }
 

@@ -1,5 +1,5 @@
 // The calls that make one kind of entry each (docs/RULES.md, "Entries"). Fields are the numbers as given, of whatever size.
-// Each says in full what it leaves as it was, since whoever makes a call reads its contract alone.
+// Each says in full what it leaves as it was, as every public call of the repository does: whoever makes a call reads its contract alone.
 #![tactic(auto)]
 
 ghost use Rattle.std.specs.Prelude.{◌≡◌};

@@ -13,7 +13,7 @@ use entries::reply::Reply;
 use pricing::Pricing;
 use sharing::Sharing;
 
-// The book's own entering, seen from its histories.
+// The book's own entering, seen from its histories. Its contract is that of `enter`: a public function has no proof file of its own.
 fn followed<P: Pricing, S: Sharing>(book: &mut Book<'_, P, S>, entry: &Entry) -> Reply
     ensures reply { result ≡ reply_on (terms_by P.Pricing.map S.Sharing.map book.old) (held book.old) entry.now }
     ensures held { held book.new ≡ afterwards (terms_by P.Pricing.map S.Sharing.map book.old) (held book.old) entry.now }

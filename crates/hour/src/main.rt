@@ -85,6 +85,7 @@ impl<'a> fmt::Display for Table<'a> {
         }
         let totals = sheet.totals();
         writeln!(f, "{COLUMNS}")?;
+        // A line is asked for, and printed, by the party's number.
         for party in 1..=totals.parties {
             if let Some(line) = sheet.line(party) {
                 let row = TableRow { party, line };

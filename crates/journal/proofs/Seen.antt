@@ -14,7 +14,7 @@ module _ {J V : Type 0} (seen : J → V) (A : V → List ℕ → Answer → V �
   outcome_seen : (j k : J) (n : ℕ) (line text : List ℕ) → Outcome By j n line text k → Outcome A (seen j) n line text (seen k)
   outcome_seen j k n line text o = (λ s. line_text_seen j k (pos n) line text (o.0 s), λ past. ((o.1 past).0, ap seen (o.1 past).1))
 
-  transcript_seen : (j k : J) (n : ℕ) (lines : List (List ℕ)) (output : List ℕ) → Transcript By j n lines output k → Transcript A (seen j) n lines output (seen k)
+  pub transcript_seen : (j k : J) (n : ℕ) (lines : List (List ℕ)) (output : List ℕ) → Transcript By j n lines output k → Transcript A (seen j) n lines output (seen k)
   transcript_seen j k n [] output t = (t.0, ap seen t.1)
   transcript_seen j k n (line ∷ lines) output t = (t.0, t.1, seen t.2, outcome_seen j t.2 n line t.0 t.3, transcript_seen t.2 k (n + 1) lines t.1 t.4, t.5)
 

@@ -34,7 +34,7 @@ fn changed<C: Change>(cell: &PlainCell, change: &C) -> PlainCell
     change.of(&Cell::from_plain(cell))
 }
 
-// Changes each cell in turn.
+// Changes each cell in turn. Its contract is that of `change_cells`: a public function has no proof file of its own.
 fn change_each<C: Change>(row: &mut [PlainCell], change: &C)
     ensures { row.new ≡ map (relaid (C.Change.change change.now)) row.old }
 {

@@ -31,7 +31,7 @@ fn enter_all<P: Pricing, S: Sharing>(
     }
 }
 
-// The refusal, or the run.
+// The refusal, or the run. Its contract is that of `run`: a public function has no proof file of its own.
 fn refused_or_run<'a, P: Pricing + Drop, S: Sharing + Drop>(
     pages: Pages<'a>,
     parties: i64,

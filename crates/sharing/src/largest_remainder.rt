@@ -43,7 +43,7 @@ impl Division for LargestRemainder {
     }
 }
 
-// The floor of each weight's share, and its remainder.
+// The floor of each weight's share, and its remainder: two lists and no list of pairs, since parties are ranked by the remainders alone and the floors are added up.
 fn floors_and_rests(split: &Split) -> (Numbers, Numbers)
     ensures floors { result.0.items ≡ floors split.now.halers split.now.weights.items }
     ensures rests { result.1.items ≡ all_rests split.now.halers split.now.weights.items }

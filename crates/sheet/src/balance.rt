@@ -30,6 +30,7 @@ impl Figure for Weights {
 }
 
 // What is to be shared, and by what: the remainder N, the weights of so many parties and their total W. No rule refuses it.
+// The weights lie on a page of 20 places with their count, as all numbers of a sheet.
 #[derive(Clone, Copy)]
 struct Shared {
     remainder: i64,

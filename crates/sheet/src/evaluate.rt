@@ -11,7 +11,7 @@ use hourly::plain::{PlainCell, PlainRecord};
 use pricing::Pricing;
 use sharing::Sharing;
 
-// The three steps, one after the other. The contract is that of `settle_hour`, which only calls this, so that a wrong call is refused there and not first in an answer.
+// The three steps, one after the other. Its contract is that of `settle_hour`: a public function has no proof file of its own, so that a wrong body of it is refused by what it promises.
 fn evaluate<P: Pricing, S: Sharing>(
     hour: i64,
     cells: &[PlainCell],

@@ -21,7 +21,7 @@ impl Model for Row {
     ghost inverse = { λ f. record { position = f.position; regulating = f.regulating; tenths = f.tenths; reading = f.reading } };
 }
 
-// Why a sheet cannot be gathered.
+// Why a sheet cannot be gathered. Some of the cases stand among a book's refusals too; a sheet knows of no book, and has no others.
 #[derive(Clone, Copy, PartialEq, Eq, Debug)]
 pub enum SheetRefusal {
     Parties,

@@ -23,7 +23,7 @@ impl From<BracketFault> for WordFault {
     }
 }
 
-// A refusal as it is answered.
+// A refusal as it is answered: with its layer, which what a book or a rule tells of a refusal has not.
 #[derive(Clone, Copy, Debug, PartialEq, Eq)]
 pub struct Told {
     pub layer: u8,

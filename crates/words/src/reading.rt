@@ -46,7 +46,7 @@ fn number(text: &[u8]) -> Option<i64>
     }
 }
 
-// A part of the line, with its column from 1.
+// A part of the line, with its column from 1. The rules tell words and numbers apart as two cases, though a field has one of each.
 #[derive(Clone, Copy)]
 enum Token<'a> {
     Word(&'a [u8], u8),
@@ -129,7 +129,8 @@ fn names(kind: Kind) -> &'static [&'static [u8]]
     }
 }
 
-// A line of so few bytes that a column of it fits a `u8`.
+// A line of so few bytes that a column of it fits a `u8`. Faults in it are told by their column, and take their kind where it is known (`fields`).
+// A place goes with the line from call to call: a cursor of both would have to keep that a field begins there, which only its first call knows.
 #[derive(Clone, Copy)]
 struct Line<'a> {
     bytes: &'a [u8],
