@@ -4,10 +4,6 @@ use Rattle.std.proofs.lemmas.Bool.{and_from, and_parts, eqb-true, leb-true, eq-e
 use Rattle.entries.specs.declared.entry.Sizes.{Sizes}
 use Rattle.book.specs.Held.{Fits, Held, Sized, fits, paged, sized}
 
--- the cells of a party end within the page
-pub party_inside : (p parties days : ℕ) → p + 1 ≤ parties → p * (days * 24) + days * 24 ≤ parties * days * 24
-party_inside p parties days l = let h : (p + 1) * (days * 24) ≤ parties * (days * 24) = mul-le-mul_right (days * 24) l in omega arith
-
 -- a book that fits, as facts
 pub fitting : (h : Held) → fits h ≡ true → Fits h
 fitting h e =

@@ -5,12 +5,6 @@ use lib.ListN.{length-map}
 use Rattle.std.proofs.lemmas.List.{drop-drop}
 use Rattle.book.specs.Posting.{changed}
 
-pub put_changed : {X : Type 0} (f : X → X) (a k n : ℕ) (xs ys : List X) → ys ≡ map f (take k (drop a xs)) → k ≡ n → put_mid a k xs ys ≡ changed f a n xs
-put_changed f a k n xs ys e same =
-    ap₂ (λ us vs. take a xs ++ (us ++ vs))
-    (e ∙ ap (λ j. map f (take j (drop a xs))) same)
-    (ap (λ j. drop j (drop a xs)) same ∙ drop-drop n a xs)
-
 -- as long as it was
 pub length-changed : {X : Type 0} (f : X → X) (a n : ℕ) (xs : List X) → length (changed f a n xs) ≡ length xs
 length-changed f a n xs =

@@ -54,12 +54,6 @@ text_is : (d text e : List ℕ) (n : ℕ) → n ≡ length text → e ≡ laid d
 text_is d text e n l w = ap (take n) w ∙ take_at text (drop (0 + length text) d) n (sym l)
 
 module _ {J : Type 0} (A : J → List ℕ → Answer → J → Type 0) where
-  pub called_filled : (j k : J) (d line e : List ℕ) (z : ℤ) (r : Option ℕ) → LineCall A j d z line r k e → Filled d (unwrap_or r 0) e
-  called_filled j k d line e z None c = record { only = c.2; within = omega arith }
-  called_filled j k d line e z (Some n) c =
-      let t = text_is d c.1.0 e n c.1.2 c.1.4 in
-      record { only = c.1.4 ∙ ap (laid d 0) (sym t); within = c.1.3 }
-
   -- a line is answered by what is kept of it as by the whole of it
   text_whole : ((j k : J) (line : List ℕ) (a : Answer) → 200 < length line → A j (take 201 line) a k → A j line a k) → (j k : J) (number : ℤ) (line text : List ℕ) → LineText A j number (take 201 line) text k → LineText A j number line text k
   text_whole cut j k number line text t =

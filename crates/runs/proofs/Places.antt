@@ -1,6 +1,6 @@
 -- Places on the pages: which place is whose, and whose are the places of a range of hours. Assumes nothing.
 use Rattle.std.proofs.Common.{◌≡◌, ℕ, ◌+◌, ◌*◌, ◌/◌, ◌%◌, ◌<◌, ◌≤◌, Bool, true, false, ◌&&◌, eqb, ltb, leb, sym, refl, ap, ◌∙◌, ap₂, ⊎_elim, arith}
-use Rattle.std.proofs.lemmas.Nat.{div-add-mod', div_below, div-mul-add, mod_below, mul-add-lt}
+use Rattle.std.proofs.lemmas.Nat.{div-add-mod', div_below, div-mul-add, mod_below}
 use Rattle.std.proofs.lemmas.Bool.{and_from, and_left, and_right, cases_eq, eq-eqb, ne_eqb}
 use Rattle.std.proofs.lemmas.Bool.Decides.{nat_tests}
 
@@ -62,7 +62,3 @@ pub record Hour (D k : ℕ) : Type 0 where
 
 pub hour_placed : (D k : ℕ) → k < D * 24 → Hour D k
 hour_placed D k h = record { day = k / 24; hour = k % 24; day_in = omega arith; hour_in = omega arith; is = omega arith }
-
--- and a place of a party, a day and an hour is on the page
-pub on_page : (P D p d t : ℕ) → p < P → d < D → t < 24 → (p * D + d) * 24 + t < P * D * 24
-on_page P D p d t hp hd ht = omega (arith, mul-add-lt p D d P hp hd)

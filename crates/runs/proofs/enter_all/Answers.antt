@@ -3,7 +3,7 @@ use Rattle.entries.specs.declared.entry.Entry.TheVariants.{Deposit}
 use Rattle.entries.specs.declared.entry.Sizes.{Sizes}
 use Rattle.book.specs.Books.{held, terms_by}
 use Rattle.book.specs.Standing.{terms}
-use Rattle.runs.proofs.Entering.{entered_all, entered_more, same-sizes}
+use Rattle.runs.proofs.Entering.{entered_more, same-sizes}
 use Rattle.runs.proofs.enter_all.Goals as goal
 
 pub loop-i-preserved : goal.loop-i-preserved
