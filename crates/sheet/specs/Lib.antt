@@ -2,3 +2,4 @@ pub mod Bounds
 pub mod Evaluation
 pub mod Gathering
 pub mod Sheets
+pub mod Firsts
