@@ -1,13 +1,14 @@
 -- Rows gathered from cells, one by one. Assumes nothing.
-use Rattle.std.proofs.Common.{◌≡◌, ℕ, ◌+◌, ◌<◌, ◌≤◌, Bool, true, not, ◌&&◌, cond, leb, ltb, ℤ, nat_abs, Option, List, [], ◌∷◌, map, length, get_or, set, is_none, Some, None, sym, refl, ap, ap₂, ◌∙◌, subst, ⊎_elim, arith}
+use Rattle.std.proofs.Common.{◌≡◌, ℕ, ◌+◌, ◌<◌, ◌≤◌, Bool, true, not, ◌&&◌, cond, leb, ltb, ℤ, nat_abs, Option, List, [], ◌∷◌, map, length, get_or, take, set, is_none, Some, None, sym, refl, ap, ap₂, ◌∙◌, subst, ⊎_elim, arith}
 use lib.ListN.{length-map}
 use Rattle.std.specs.List.{position, prefix_len}
-use Rattle.std.proofs.lemmas.List.{get_or-set_same, get_or-set_other}
+use Rattle.std.proofs.lemmas.List.{get_or-set_same, get_or-set_other, get_or-take, get_or_past, length-take}
 use Rattle.std.specs.Prelude.{option_map}
-use Rattle.std.proofs.lemmas.Bool.{and_from, cases_eq, cond-true, le-leb}
+use Rattle.std.proofs.lemmas.Bool.{and_from, cases_eq, cases_lt, cond-true, le-leb}
 use Rattle.hourly.specs.declared.plain.PlainCell.{PlainCell}
 use Rattle.hourly.specs.Cells.{CellFigures, read}
 use Rattle.sheet.specs.declared.row.Row.{Row}
+use Rattle.sheet.specs.Bounds.{RowFigures, RowWithin, RowsWithin, zero_row}
 use Rattle.sheet.specs.Gathering.{gather_refusal, known_hour, missing_reading, row_of}
 
 -- what holds of each element still does after one is written of which it holds
@@ -39,3 +40,11 @@ readings_decide hour cells o one few known e =
     cond-true (leb 1 n && leb n 20) _ _ (and_from (leb 1 n) (leb n 20) (le-leb 1 n (omega arith)) (le-leb n 20 (omega arith)))
     ∙ cond-true (known_hour hour) _ _ known
     ∙ ap (λ p. missing_reading (nat_abs hour) (option_map (λ i. i + 1) p)) (missing_at cells ∙ sym e)
+
+-- rows within the bounds, the first of them
+pub rows_taken : (rows : List RowFigures) (n : ℕ) → RowsWithin rows → RowsWithin (take n rows)
+rows_taken rows n h k =
+    ⊎_elim
+    (λ lt. subst RowWithin (sym (get_or-take n rows k zero_row lt)) (h k))
+    (λ ge. subst RowWithin (sym (get_or_past (take n rows) k zero_row (omega (arith, length-take n rows)))) (omega arith, omega arith, omega arith, omega arith))
+    (cases_lt k n)

@@ -2,7 +2,7 @@
 ghost use Rattle.std.specs.Prelude.{◌≡◌, ◌≤◌, [], map, length, take, replicate, is_none, Some, None, MatchResult, position};
 ghost use Rattle.hourly.specs.Cells.{read};
 ghost use Rattle.hourly.specs.Records.{record_read};
-ghost use Rattle.sheet.specs.Bounds.{zero_row};
+ghost use Rattle.sheet.specs.Bounds.{RowWithin, RowsWithin, zero_row};
 ghost use Rattle.sheet.specs.Gathering.{facts, gather_refusal, no_facts, row_of, row_page, rows_gathered, told};
 
 use super::gathered::Gathered;
@@ -30,7 +30,8 @@ impl Tells for SheetRefusal {
 
 // What an evaluation reads of a cell.
 fn row_at(p: &PlainCell) -> Row
-    ensures { result ≡ row_of (read p.now) }
+    ensures value { result ≡ row_of (read p.now) }
+    ensures within { RowWithin result }
 {
     let cell = Cell::from_plain(p);
     let reading = cell.reading.unwrap_or(0);
@@ -44,7 +45,8 @@ fn row_at(p: &PlainCell) -> Row
 
 // Rows of zeros.
 fn no_rows() -> [Row; 20]
-    ensures { result ≡ replicate 20 zero_row }
+    ensures value { result ≡ replicate 20 zero_row }
+    ensures within { RowsWithin result }
 {
     [Row {
         position: 0,
@@ -59,6 +61,7 @@ fn rows_of(cells: &[PlainCell]) -> [Row; 20]
     requires { length cells.now ≤ 20 }
     ensures page { result ≡ row_page (map row_of (map read cells.now)) }
     ensures value { take (length cells.now) result ≡ map row_of (map read cells.now) }
+    ensures within { RowsWithin result }
 {
     let mut rows = no_rows();
     for (i, cell) in cells.iter().enumerate() {

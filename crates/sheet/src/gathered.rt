@@ -1,4 +1,5 @@
 ghost use Rattle.std.specs.Prelude.{◌≤◌};
+ghost use Rattle.sheet.specs.Bounds.{RowsWithin};
 
 use super::row::{Row, SheetRefusal};
 use hourly::record::HourRecord;
@@ -12,4 +13,5 @@ pub struct Gathered {
     pub(crate) deliveries: HourRecord,
     pub(crate) refusal: Option<SheetRefusal>,
     ghost few: { count ≤ 20 },
+    ghost within: { RowsWithin rows },
 }

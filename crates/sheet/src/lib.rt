@@ -1,9 +1,9 @@
 // One hour, evaluated (docs/RULES.md, "One hour, evaluated"): a sheet is gathered, then priced, then balanced, and each step uses up the sheet before it.
 #![tactic(auto)]
 
-ghost use Rattle.std.specs.Prelude.{◌≡◌, ℕ, ◌*◌, ◌≤◌, map, ℤ, unsigned_abs};
+ghost use Rattle.std.specs.Prelude.{◌≡◌, ℕ, ◌*◌, ◌≤◌, map, length, ℤ, unsigned_abs};
 ghost use Rattle.units.specs.Sums.{page, sum_z};
-ghost use Rattle.sheet.specs.Bounds.{Within};
+ghost use Rattle.sheet.specs.Bounds.{RowsWithin, Within};
 ghost use Rattle.sheet.specs.Evaluation.{price_for};
 ghost use Rattle.sheet.specs.Gathering.{facts};
 ghost use Rattle.sheet.specs.declared.row.Row.{Row};
@@ -91,7 +91,9 @@ fn price_for(prices: &Prices, kwh: i64) -> i64
 
 // The rows of a sheet's parties.
 fn party_rows(sheet: &Gathered) -> &[Row]
-    ensures { result.now ≡ (facts sheet.now).rows }
+    ensures value { result.now ≡ (facts sheet.now).rows }
+    ensures few { length result.now ≤ 20 }
+    ensures within { RowsWithin result.now }
 {
     &sheet.rows[..sheet.count]
 }

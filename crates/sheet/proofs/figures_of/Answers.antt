@@ -1,9 +1,6 @@
-use Rattle.std.proofs.Common.{◌≡◌, ◌<◌, ◌≤◌, List, map, length, take, ℤ, pos, nat_abs, sym, ap, ◌∙◌, subst, arith, length-take, w64, to_z, of_z, rules}
+use Rattle.std.proofs.Common.{◌≡◌, ◌<◌, ◌≤◌, map, length, take, ℤ, pos, nat_abs, sym, ap, ◌∙◌, subst, arith, length-take, w64, to_z, of_z, rules}
 use lib.ListN.{length-map}
-use Rattle.std.proofs.lemmas.List.{take_all}
-use Rattle.units.specs.Sums.{page}
 use Rattle.units.proofs.Summing.{length-page}
-use Rattle.sheet.specs.declared.row.Row.{Row}
 use Rattle.sheet.proofs.Columns.{column_more}
 use Rattle.sheet.proofs.Rows.{each_set}
 use Rattle.sheet.proofs.figures_of.Goals as goal
@@ -11,12 +8,11 @@ use Rattle.sheet.proofs.figures_of.Goals as goal
 pub loop-i-preserved : goal.loop-i-preserved
 loop-i-preserved g c =
     let i = c.loop-i.i in
-    let s = c.args.sheet.now in
     let rows = c.party_rows-row-items.result.now in
     let ps = c.loop-i.figures in
     let f = g.F.Figure.figure c.args.figure.now in
     let n = g.F.Figure.limit in
-    let few : length rows ≤ 20 = omega (arith, ap length c.party_rows-row-items.ensures, length-take s.count s.rows, s.few) in
+    let few : length rows ≤ 20 = c.party_rows-row-items.ensures.few in
     let z : to_z w64 (of_z w64 c.of.result) ≡ c.of.result = search rules in
     let v = z ∙ c.of.ensures.value in
     let ys = map f (take i rows) in
