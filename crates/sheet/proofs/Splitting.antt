@@ -87,7 +87,7 @@ parts_make_up g laws n ws =
     (λ t. let z = sum_z_zeros (length ws) in omega (arith, ints))
 
 -- so they do on a page
-parts_whole : (g : ShareMap) → Lawful g → (n : ℤ) (ws : List ℕ) → sum_z (page (parts_by g n ws)) +ℤ operator_by n ws ≡ n
+pub parts_whole : (g : ShareMap) → Lawful g → (n : ℤ) (ws : List ℕ) → sum_z (page (parts_by g n ws)) +ℤ operator_by n ws ≡ n
 parts_whole g laws n ws = ap (λ (y : ℤ). y +ℤ operator_by n ws) (sum_z-page (parts_by g n ws)) ∙ parts_make_up g laws n ws
 
 -- every weight has a part
@@ -98,7 +98,7 @@ length-parts g laws n ws =
     (λ _. length-replicate (length ws) (pos 0))
 
 -- no part is larger than the remainder
-parts_small : (g : ShareMap) → Lawful g → (n : ℤ) (ws : List ℕ) (m : ℕ) → nat_abs n ≤ m → length ws ≤ 20 → Within m (page (parts_by g n ws))
+pub parts_small : (g : ShareMap) → Lawful g → (n : ℤ) (ws : List ℕ) (m : ℕ) → nat_abs n ≤ m → length ws ≤ 20 → Within m (page (parts_by g n ws))
 parts_small g laws n ws m h few k =
     cond_both (ltb 0 (sum_n ws)) (g n ws) (replicate (length ws) (pos 0)) (λ (xs : List ℤ). nat_abs (get_or (page xs) k (pos 0)) ≤ m)
     (λ _. le_trans (page-within g laws n ws k) h)
