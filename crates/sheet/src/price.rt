@@ -82,6 +82,26 @@ fn prices_by<P: Pricing>(rule: &P, system: i64, deliveries: &HourRecord) -> Pric
     }
 }
 
+// The steps of pricing. Its contract is that of `price`: a public function has no proof file of its own, so that a wrong body of it is refused by what it promises.
+fn price_sheet<P: Pricing>(sheet: Gathered, rule: &P) -> Priced
+    ensures gathered { result.gathered ≡ sheet }
+    ensures imbalances { result.imbalances ≡ page (map imbalance (facts sheet).rows) }
+    ensures system { result.system ≡ system_imbalance (facts sheet).rows }
+    ensures prices { result.prices ≡ prices_of (P.Pricing.map rule.now) (facts sheet) }
+    ensures firsts { result.firsts ≡ page (first_amounts (P.Pricing.map rule.now) (facts sheet)) }
+{
+    let Column { figures, total } = totalled(&Imbalances, &sheet);
+    let prices = prices_by(rule, total, &sheet.deliveries);
+    let firsts = figures_of(&FirstAmounts { prices }, &sheet);
+    Priced {
+        gathered: sheet,
+        imbalances: figures,
+        system: total,
+        prices,
+        firsts,
+    }
+}
+
 impl Gathered {
     // Prices the sheet by a rule.
     pub fn price<P: Pricing>(self, rule: &P) -> Priced
@@ -91,15 +111,6 @@ impl Gathered {
         ensures prices { result.prices ≡ prices_of (P.Pricing.map rule.now) (facts self) }
         ensures firsts { result.firsts ≡ page (first_amounts (P.Pricing.map rule.now) (facts self)) }
     {
-        let Column { figures, total } = totalled(&Imbalances, &self);
-        let prices = prices_by(rule, total, &self.deliveries);
-        let firsts = figures_of(&FirstAmounts { prices }, &self);
-        Priced {
-            gathered: self,
-            imbalances: figures,
-            system: total,
-            prices,
-            firsts,
-        }
+        price_sheet(self, rule)
     }
 }
