@@ -242,11 +242,13 @@ impl HourRecord {
         ensures { option_map record_figures result ≡ (if deliverable (record_figures self.now) kwh price then Some (delivered (record_figures self.now) kwh price) else None) }
     {
         if kwh < 0 {
-            let downward = self.downward.deliver(kwh.unsigned_abs(), price)?;
-            Some(HourRecord { downward, ..*self })
+            self.downward
+                .deliver(kwh.unsigned_abs(), price)
+                .map(|downward| HourRecord { downward, ..*self })
         } else {
-            let upward = self.upward.deliver(kwh.unsigned_abs(), price)?;
-            Some(HourRecord { upward, ..*self })
+            self.upward
+                .deliver(kwh.unsigned_abs(), price)
+                .map(|upward| HourRecord { upward, ..*self })
         }
     }
 }
