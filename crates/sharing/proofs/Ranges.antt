@@ -1,9 +1,9 @@
 -- What is not refused is in range, and the other way round. Assumes nothing.
-use Rattle.std.proofs.Common.{◌≡◌, ℕ, zero, suc, ◌*◌, ◌<◌, ◌≤◌, Bool, true, false, cond, ltb, leb, List, [], ◌∷◌, map, length, get_or, ℤ, pos, nat_abs, Some, None, Option, not, sym, refl, ap, ◌∙◌, subst, not-suc-le-zero, arith}
+use Rattle.std.proofs.Common.{◌≡◌, ℕ, zero, suc, ◌+◌, ◌*◌, ◌<◌, ◌≤◌, Bool, true, false, cond, ltb, leb, List, [], ◌∷◌, map, length, get_or, drop, ℤ, pos, nat_abs, Some, None, Option, not, sym, refl, ap, ◌∙◌, subst, not-suc-le-zero, arith}
 use lib.ListN.{length-map}
 use Rattle.std.specs.List.{find}
 use Rattle.std.specs.Prelude.{option_map}
-use Rattle.std.proofs.lemmas.List.{get_or-map}
+use Rattle.std.proofs.lemmas.List.{get_or-map, at_drop_more}
 use Rattle.std.proofs.lemmas.Int.{ints}
 use Rattle.std.proofs.lemmas.Bool.{cond-false, le-ltb, le-leb, and_from}
 use Rattle.units.specs.Sums.{sum_n, page}
@@ -24,13 +24,20 @@ weights_small [] e k h = absurd (not-suc-le-zero h)
 weights_small (w ∷ ws) e zero h = small w (not_refused (in_range w) w (find (λ v. not (in_range v)) ws) e).0
 weights_small (w ∷ ws) e (suc k) h = weights_small ws (not_refused (in_range w) w (find (λ v. not (in_range v)) ws) e).1 k (omega arith)
 
+-- the search for a weight out of range, one step on
+pub refusal_more : (ws : List ℤ) (i : ℕ) → i < length ws → in_range (get_or ws i (pos 0)) ≡ true → weight_refusal (drop i ws) ≡ weight_refusal (drop (i + 1) ws)
+refusal_more ws i h t = at_drop_more weight_refusal ws i (pos 0) h ∙ ap (option_map Weight) (cond-false (not (in_range (get_or ws i (pos 0)))) _ _ (ap not t))
+
+by_weights : (n : ℤ) (ws : List ℤ) → nat_abs n ≤ 600000000000 → length ws ≤ 20 → refusal n ws ≡ weight_refusal ws
+by_weights n ws h l = cond-false (ltb 600000000000 (nat_abs n)) _ _ (le-ltb 600000000000 (nat_abs n) h) ∙ cond-false (ltb 20 (length ws)) _ _ (le-ltb 20 (length ws) l)
+
 -- what is refused for no weight, and neither for the remainder nor for the count, is in range
-admitted : (n : ℤ) (ws : List ℤ) → nat_abs n ≤ 600000000000 → length ws ≤ 20 → refusal n ws ≡ weight_refusal ws
-admitted n ws h l = cond-false (ltb 600000000000 (nat_abs n)) _ _ (le-ltb 600000000000 (nat_abs n) h) ∙ cond-false (ltb 20 (length ws)) _ _ (le-ltb 20 (length ws) l)
+pub admitted : (n : ℤ) (ws : List ℤ) → nat_abs n ≤ 600000000000 → length ws ≤ 20 → weight_refusal ws ≡ None → (refusal n ws ≡ None) × Within n ws
+admitted n ws h l e = (by_weights n ws h l ∙ e, record { halers = h; few = l; light = weights_small ws e })
 
 decided : (n : ℤ) (ws : List ℤ) (o : Option SharingRefusal) → nat_abs n ≤ 600000000000 → length ws ≤ 20 → weight_refusal ws ≡ o → Admits n ws (answer o)
-decided n ws None h l e = (admitted n ws h l ∙ e, record { halers = h; few = l; light = weights_small ws e })
-decided n ws (Some r) h l e = admitted n ws h l ∙ e
+decided n ws None h l e = admitted n ws h l e
+decided n ws (Some r) h l e = by_weights n ws h l ∙ e
 
 -- where neither the remainder nor the count is refused, the weights decide
 pub admits : (n : ℤ) (ws : List ℤ) → nat_abs n ≤ 600000000000 → length ws ≤ 20 → Admits n ws (answer (weight_refusal ws))
@@ -48,7 +55,7 @@ no_refusal (u ∷ us) h = ap (option_map Weight) (cond-false (not (in_range (pos
 
 -- a remainder and magnitudes in range are not refused
 pub accepted : (n : ℤ) (us : List ℕ) → nat_abs n ≤ 600000000000 → Light us → refusal n (map pos us) ≡ None
-accepted n us h l = admitted n (map pos us) h (omega (arith, length-map us pos, l.few)) ∙ no_refusal us l.each
+accepted n us h l = (admitted n (map pos us) h (omega (arith, length-map us pos, l.few)) (no_refusal us l.each)).0
 
 pub magnitudes_pos : (us : List ℕ) → magnitudes (map pos us) ≡ us
 magnitudes_pos [] = refl

@@ -1,7 +1,7 @@
 -- The sign of a remainder taken off and restored, and sums of magnitudes. That a rule on magnitudes keeps the laws is in `specs/Signs`. Assumes nothing.
 use Rattle.std.specs.Prelude.{◌≡◌, ℕ, zero, suc, ◌≤◌, Bool, true, false, List, [], ◌∷◌, length, replicate, ℤ, pos, negsuc, int_lt, slice_index, unsigned_abs, refl}
 use Rattle.std.proofs.Common.{arith, ⊎_elim, sym, ap, ◌∙◌}
-use Rattle.std.proofs.lemmas.List.{length-map, length-replicate}
+use Rattle.std.proofs.lemmas.List.{ext_get_or, get_or-replicate, length-map, length-replicate}
 use Rattle.std.proofs.lemmas.Int.{ints}
 use Rattle.std.proofs.lemmas.Bool.{le-ltb, cases_lt}
 use Rattle.units.specs.Sums.{sum_n, page}
@@ -23,6 +23,10 @@ pub at_most_sum : (xs : List ℕ) (k : ℕ) → slice_index xs k ≤ sum_n xs
 at_most_sum [] k = omega arith
 at_most_sum (x ∷ xs) zero = omega arith
 at_most_sum (x ∷ xs) (suc k) = omega (arith, at_most_sum xs k)
+
+-- a list of n numbers, each 0
+pub all_zero : (xs : List ℕ) (n : ℕ) → length xs ≡ n → ((k : ℕ) → slice_index xs k ≡ 0) → xs ≡ replicate n 0
+all_zero xs n l h = ext_get_or 0 xs (replicate n 0) (l ∙ sym (length-replicate n 0)) (λ k b. h k ∙ sym (get_or-replicate n k 0 0 (omega arith)))
 
 -- the shares add up to no more than is shared
 pub splits_within : (f : ℕ → List ℕ → List ℕ) → Splits f → (m : ℕ) (ws : List ℕ) → sum_n (f m ws) ≤ m

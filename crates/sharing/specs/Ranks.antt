@@ -25,6 +25,9 @@ range_more a (suc n) = ap (λ (ks : List ℕ). a ∷ ks) (range_more (a + 1) n �
 tally_suc : (f : ℕ → ℕ) (n : ℕ) → tally f (suc n) ≡ tally f n + f n
 tally_suc f n = ap (sum_by f) (range_more 0 n ∙ ap (λ (k : ℕ). range_with_len 0 n ++ k ∷ []) (omega arith)) ∙ sum_by_push f (range_with_len 0 n) n
 
+pub tally_more : (f : ℕ → ℕ) (n : ℕ) → tally f (n + 1) ≡ tally f n + f n
+tally_more f n = let e : n + 1 ≡ suc n = omega arith in ap (tally f) e ∙ tally_suc f n
+
 tally_mono : (f g : ℕ → ℕ) (n : ℕ) → ((j : ℕ) → j < n → f j ≤ g j) → tally f n ≤ tally g n
 tally_mono f g zero h = omega arith
 tally_mono f g (suc n) h = omega (arith, tally_suc f n, tally_suc g n, tally_mono f g n (λ j l. h j (omega arith)), h n (omega arith))
