@@ -23,7 +23,11 @@ abbrev pub first : (ℕ → Bool) → ℕ → ℕ → Option ℕ
 first f a zero = None
 first f a (suc n) = cond (f a) (Some a) (first f (a + 1) n)
 
--- 6: the day's state admits the entry. None admits an evaluation yet
+-- 6: the day's state admits the entry
+abbrev pub state_check : Standing → Entry → ℤ → Check
+state_check v e day = record { fails = not (is_some (after (v.state (index day)) e)); refusal = NotAdmitted (v.state (index day)) }
+
+-- none admits an evaluation yet, whatever the table says
 abbrev pub admits : DayState → Entry → Bool
 admits s (Deposit party haler) = true
 admits s (Withdraw party haler) = true
@@ -34,8 +38,8 @@ admits s (Regulate day hour party kwh price) = is_some (after s (Regulate day ho
 admits s (Meter day from to party kwh) = is_some (after s (Meter day from to party kwh))
 admits s (Evaluate day stage) = false
 
-abbrev pub state_check : Standing → Entry → ℤ → Check
-state_check v e day = record { fails = not (admits (v.state (index day)) e); refusal = NotAdmitted (v.state (index day)) }
+abbrev pub admitted_check : Standing → Entry → ℤ → Check
+admitted_check v e day = record { fails = not (admits (v.state (index day)) e); refusal = NotAdmitted (v.state (index day)) }
 
 -- 7: no position of seller or buyer passes 499,999 in magnitude; the place is the first hour in which one would
 abbrev pub beyond : Standing → ℤ → ℤ → ℤ → ℤ → ℕ → Bool
@@ -92,7 +96,7 @@ cover_check m v e party = record { fails = not (passes_cover m v e (index party)
 -- Row by row of the table: 6, 7, 8 and 9
 
 abbrev pub state_checks : Standing → Entry → List Check
-state_checks v e = map (state_check v e) (day_of e)
+state_checks v e = map (admitted_check v e) (day_of e)
 
 abbrev pub kwh_checks : Standing → Entry → List Check
 kwh_checks v (Deposit party haler) = []

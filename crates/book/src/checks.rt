@@ -10,7 +10,7 @@ ghost use Rattle.entries.specs.Fields.{checked, verdict};
 ghost use Rattle.entries.specs.Sane.{Numbered, Sane};
 ghost use Rattle.book.specs.Standing.{index};
 ghost use Rattle.book.specs.Effects.{paid, side, sold};
-ghost use Rattle.book.specs.Checks.{beyond_of, kwh_checks, cash_after, cash_check, cash_checks, cover_check, cover_checks, state_check, state_checks, need_after, passes_cover, first};
+ghost use Rattle.book.specs.Checks.{admitted_check, beyond_of, kwh_checks, cash_after, cash_check, cash_checks, cover_check, cover_checks, state_check, state_checks, need_after, passes_cover, first};
 ghost use Rattle.book.specs.Sales.{beyond_in, cells_of, over, sale_of, states_of, trade_of};
 ghost use Rattle.book.specs.Held.{standing_on};
 ghost use Rattle.book.specs.Posting.{refusal_on};
@@ -238,16 +238,23 @@ impl Ledger<'_> {
         }
     }
 
-    // Row 6 on its day. No state admits an evaluation yet.
-    fn check_admitted(&self, entry: &Entry, day: i64) -> Result<(), Refusal>
+    // Whether the state of a day admits an entry, by the table of states.
+    fn check_table(&self, entry: &Entry, day: i64) -> Result<(), Refusal>
         ensures { result ≡ checked (state_check (standing_on self.now) entry.now day ∷ []) }
     {
-        let state = self.state(index(day));
+        next_state(self.state(index(day)), entry)?;
+        Ok(())
+    }
+
+    // Row 6 on its day. No state admits an evaluation yet.
+    fn check_admitted(&self, entry: &Entry, day: i64) -> Result<(), Refusal>
+        ensures { result ≡ checked (admitted_check (standing_on self.now) entry.now day ∷ []) }
+    {
         if let Entry::Evaluate { .. } = entry {
+            let state = self.state(index(day));
             return Err(Refusal::NotAdmitted { state });
         }
-        next_state(state, entry)?;
-        Ok(())
+        self.check_table(entry, day)
     }
 
     // Row 6 of the table of refusals.

@@ -1,5 +1,5 @@
 -- Figures that agree within a book's sizes give every entry the same refusal: a number out of range is refused before anything is looked up for it. Assumes nothing.
-use Rattle.std.proofs.Common.{◌≡◌, ℕ, zero, suc, ◌+◌, ◌<◌, ◌≤◌, Bool, cond, not, ◌&&◌, List, [], ◌∷◌, ℤ, pos, ◌+ℤ◌, neg_ℤ, Some, None, Option, sym, refl, ap, ◌∙◌, ap₂, arith}
+use Rattle.std.proofs.Common.{◌≡◌, ℕ, zero, suc, ◌+◌, ◌<◌, ◌≤◌, Bool, cond, not, ◌&&◌, List, [], ◌∷◌, ℤ, pos, ◌+ℤ◌, neg_ℤ, is_some, Some, None, Option, sym, refl, ap, ◌∙◌, ap₂, arith}
 use lib.Signed.{le_z}
 use Rattle.hourly.specs.Bounds.{within}
 use Rattle.hourly.specs.Cells.{CellFigures}
@@ -12,11 +12,12 @@ use Rattle.entries.specs.declared.refusal.Refusal.{Refusal}
 use Rattle.entries.specs.declared.refusal.Refusal.TheVariants.{NotAdmitted, KwhBeyond, CashBeyond, NotCovered}
 use Rattle.entries.specs.Fields.{Check, field_checks, first_of}
 use Rattle.entries.specs.Sane.{Numbered, Ranged, Sane}
+use Rattle.entries.specs.States.{after}
 use Rattle.entries.proofs.Passed.{earlier, later, sane}
 use Rattle.book.specs.declared.account.Account.{Account}
 use Rattle.book.specs.Standing.{Standing, Terms, hours, index}
 use Rattle.book.specs.Effects.{paid, traded}
-use Rattle.book.specs.Checks.{admits, beyond, book_checks, cash_check, cover_check, delivery_check, first, first_beyond, passes_cover, position_after, position_check, refusal_at, state_check}
+use Rattle.book.specs.Checks.{admits, admitted_check, beyond, book_checks, cash_check, cover_check, delivery_check, first, first_beyond, passes_cover, position_after, position_check, refusal_at, state_check}
 use Rattle.book.proofs.Covering.{need-same, range_ends}
 use Rattle.histories.specs.Agreement.{Agrees}
 
@@ -41,7 +42,10 @@ module _ (m : Terms) (v w : Standing) (a : Agrees m.sizes v w) (days : (d : ℕ)
       (ap (λ (x : Account). x.cash +ℤ paid e p +ℤ x.settled) (a.account p l))
 
   state-same : (e : Entry) (day : ℤ) → Numbered m.sizes.days day → state_check v e day ≡ state_check w e day
-  state-same e day k = ap (λ (s : DayState). record { fails = not (admits s e); refusal = NotAdmitted s }) (a.state (index day) (below _ day k))
+  state-same e day k = ap (λ (s : DayState). record { fails = not (is_some (after s e)); refusal = NotAdmitted s }) (a.state (index day) (below _ day k))
+
+  admitted-same : (e : Entry) (day : ℤ) → Numbered m.sizes.days day → admitted_check v e day ≡ admitted_check w e day
+  admitted-same e day k = ap (λ (s : DayState). record { fails = not (admits s e); refusal = NotAdmitted s }) (a.state (index day) (below _ day k))
 
   beyond-same : (day from to seller buyer kwh : ℤ) → Numbered m.sizes.days day → Ranged from to → Numbered m.sizes.parties seller → Numbered m.sizes.parties buyer → first_beyond v day from to seller buyer kwh ≡ first_beyond w day from to seller buyer kwh
   beyond-same day from to seller buyer kwh kd kr ks kb =
@@ -86,7 +90,7 @@ module _ (m : Terms) (v w : Standing) (a : Agrees m.sizes v w) (days : (d : ℕ)
   book_same (Regulate day hour party kwh price) k =
       ap₂ (λ (c d : Check). c ∷ d ∷ []) (state-same (Regulate day hour party kwh price) day k.1) (delivery_same day hour kwh price k.1 k.2)
   book_same (Meter day from to party kwh) k = ap (λ (c : Check). c ∷ []) (state-same (Meter day from to party kwh) day k.1)
-  book_same (Evaluate day stage) k = ap (λ (c : Check). c ∷ []) (state-same (Evaluate day stage) day k.0)
+  book_same (Evaluate day stage) k = ap (λ (c : Check). c ∷ []) (admitted-same (Evaluate day stage) day k.0)
 
   pub refusal-same : (e : Entry) → refusal_at m v e ≡ refusal_at m w e
   refusal-same e = go (first_of (field_checks m.sizes e)) refl
