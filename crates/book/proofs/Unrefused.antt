@@ -13,7 +13,7 @@ use Rattle.book.specs.Standing.{Terms}
 use Rattle.book.specs.Checks.{book_checks, cash_checks, checks, cover_checks, kwh_checks, refusal_at, state_checks}
 use Rattle.book.specs.Held.{Fits, Held, fits, standing_on}
 use Rattle.book.specs.Posting.{Room, after_refusal, afterwards, posted, refusal_on}
-use Rattle.book.proofs.Places.{fitted}
+use Rattle.book.proofs.Places.{fitted, fitting}
 
 -- where none of two lists of checks fails, none of the first fails
 passed_first : (cs ds : List Check) → first_of (cs ++ ds) ≡ None → first_of cs ≡ None
@@ -21,8 +21,8 @@ passed_first [] ds h = refl
 passed_first (c ∷ cs) ds h = let p = passed c.fails c.refusal (first_of (cs ++ ds)) h in cond-false c.fails (Some c.refusal) (first_of cs) p.0 ∙ passed_first cs ds p.1
 
 -- a choice that is none where the other way is a refusal
-chosen : (b : Bool) (o : Option Refusal) (r : Refusal) → cond b o (Some r) ≡ None → o ≡ None
-chosen true o r h = h
+chosen : (b : Bool) (o : Option Refusal) (r : Refusal) → cond b o (Some r) ≡ None → (b ≡ true) × (o ≡ None)
+chosen true o r h = (refl, h)
 chosen false o r h = absurd (let z : ◌≡◌ {A = ℕ} 0 1 = cc in omega arith)
 
 held_not : (b : Bool) → not b ≡ false → b ≡ true
@@ -83,6 +83,7 @@ room m h (Evaluate day stage) n = tt
 
 -- an entry that is not refused
 pub record Writable (m : Terms) (h : Held) (e : Entry) : Type 0 where
+  pub fits : Fits h
   pub sane : Sane m.sizes e
   pub room : Room h e
 
@@ -90,11 +91,12 @@ pub writable : (m : Terms) (h : Held) (e : Entry) → verdict (refusal_on m h e)
 unfolding refusal_on
 writable m h e n =
     let v = standing_on h in
-    let all = chosen (fits h) (refusal_at m v e) WrongSize (unmet_by (refusal_on m h e) n) in
-    let fields = passed_first (field_checks m.sizes e) (book_checks m v e) all in
+    let a = chosen (fits h) (refusal_at m v e) WrongSize (unmet_by (refusal_on m h e) n) in
+    let fields = passed_first (field_checks m.sizes e) (book_checks m v e) a.1 in
     record {
+      fits = fitting h a.0;
       sane = sane m.sizes e fields;
-      room = room m h e (sym (later (field_checks m.sizes e) (book_checks m v e) fields) ∙ all);
+      room = room m h e (sym (later (field_checks m.sizes e) (book_checks m v e) fields) ∙ a.1);
     }
 
 -- a refused entry changes nothing, and an accepted one is written
