@@ -1,7 +1,8 @@
 // Opening a book (docs/RULES.md, "Parties, days and pages").
-ghost use Rattle.std.specs.Prelude.{◌≡◌};
-ghost use Rattle.book.specs.Opening.{Opens, openable};
+ghost use Rattle.std.specs.Prelude.{◌≡◌, true, length};
+ghost use Rattle.book.specs.Opening.{Opens, openable, sizes_of};
 ghost use Rattle.book.specs.Books.{held};
+ghost use Rattle.book.specs.Posting.{opened};
 
 use super::account::Account;
 use super::book::{Book, Ledger};
@@ -28,6 +29,27 @@ pub fn openable(parties: i64, days: i64, cells: usize, records: usize) -> bool
     cells == parties as usize * hours && records == hours
 }
 
+impl<'a> Ledger<'a> {
+    // A ledger of so many parties and days on these pages, all cleared. Apart from `open`, since a public function has no proof file of its own.
+    fn opened(pages: Pages<'a>, parties: i64, days: i64) -> Ledger<'a>
+        requires { openable parties days (length pages.cells.now) (length pages.records.now) ≡ true }
+        ensures { result ≡ opened (sizes_of parties days) }
+    {
+        clear_cells(pages.cells);
+        clear_records(pages.records);
+        Ledger {
+            pages,
+            sizes: Sizes {
+                parties: parties as u8,
+                days: days as u8,
+            },
+            accounts: [Account::default(); 20],
+            states: [DayState::Open; 62],
+            operator: 0,
+        }
+    }
+}
+
 impl<'a, P: Drop, S: Drop> Book<'a, P, S> {
     // A book of so many parties and days on these pages, all cleared; 11, with the pages as they were, unless there are 1 to 20 parties and
     // 1 to 62 days, and exactly their cells and hour records.
@@ -44,18 +66,7 @@ impl<'a, P: Drop, S: Drop> Book<'a, P, S> {
             let refusal = Refusal::WrongSize;
             return Err(Returned { refusal, pages });
         }
-        clear_cells(pages.cells);
-        clear_records(pages.records);
-        let ledger = Ledger {
-            pages,
-            sizes: Sizes {
-                parties: parties as u8,
-                days: days as u8,
-            },
-            accounts: [Account::default(); 20],
-            states: [DayState::Open; 62],
-            operator: 0,
-        };
+        let ledger = Ledger::opened(pages, parties, days);
         Ok(Book {
             ledger,
             pricing,

@@ -4,10 +4,10 @@ use Rattle.hourly.specs.Cells.{blank}
 use Rattle.hourly.specs.Records.{no_deliveries, record_plain}
 use Rattle.book.specs.Opening.{openable}
 use Rattle.book.proofs.Opened.{laid}
-use Rattle.book.proofs.book.Book.open.Goals as goal
+use Rattle.book.proofs.book.Ledger.opened.Goals as goal
 
-pub invariant_of-ledger : goal.invariant_of-ledger
-invariant_of-ledger g c =
+pub invariant_of-result : goal.invariant_of-result
+invariant_of-result c =
     let parties = to_z w64 (of_z w64 c.args.parties) in
     let days = to_z w64 (of_z w64 c.args.days) in
     let cells = c.args.pages.cells.now in

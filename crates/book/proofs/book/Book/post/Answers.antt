@@ -3,7 +3,7 @@ use Rattle.entries.specs.Fields.{verdict}
 use Rattle.book.specs.Books.{held, terms_by}
 use Rattle.book.specs.Posting.{refusal_on}
 use Rattle.book.proofs.Unrefused.{changed, unchanged, writable}
-use Rattle.book.proofs.book.Book.enter.Goals as goal
+use Rattle.book.proofs.book.Book.post.Goals as goal
 
 pub returns-in_err-check-clause-held : goal.returns-in_err-check-clause-held
 returns-in_err-check-clause-held g c =
