@@ -1,5 +1,5 @@
 // The checks of an entry's fields, in the order of the table of refusals.
-ghost use Rattle.std.specs.Prelude.{◌≡◌, not, ◌&&◌, [], ◌∷◌, map, pos, int_le};
+ghost use Rattle.std.specs.Prelude.{◌≡◌, not, ◌&&◌, [], ◌∷◌, ◌++◌, map, pos, int_le};
 ghost use Rattle.entries.specs.Fields.{between, checked, day_check, day_of, field_checks, hour_check, hour_checks, market_kwh, market_price, parties_of, party_check, range_check, regulating_kwh, trader_checks, traders_check, value_checks};
 ghost use Rattle.entries.specs.declared.refusal.Refusal.TheVariants.{OutOfRange};
 
@@ -166,6 +166,15 @@ fn check_traders(entry: &Entry) -> Result<(), Refusal>
     }
 }
 
+// Rows 4 and 5.
+#[tactic(auto, using(crate::proofs::Passed::stops, crate::proofs::Passed::goes_on))]
+fn check_values_and_traders(entry: &Entry) -> Result<(), Refusal>
+    ensures { result ≡ checked (value_checks entry.now ++ trader_checks entry.now) }
+{
+    check_values(entry)?;
+    check_traders(entry)
+}
+
 // The first refusal that the entry's fields meet, if any.
 #[tactic(auto, using(crate::proofs::Passed::stops, crate::proofs::Passed::goes_on))]
 pub fn check_fields(sizes: &Sizes, entry: &Entry) -> Result<(), Refusal>
@@ -174,6 +183,5 @@ pub fn check_fields(sizes: &Sizes, entry: &Entry) -> Result<(), Refusal>
     check_parties(sizes, entry)?;
     check_day(sizes, entry)?;
     check_hours(entry)?;
-    check_values(entry)?;
-    check_traders(entry)
+    check_values_and_traders(entry)
 }
