@@ -97,6 +97,17 @@ fn scan(line: &[u8]) -> Result<(), usize>
     }
 }
 
+// Whether a line of bytes that it may hold is a form; else the fault of its shape.
+fn check_shape(line: &[u8]) -> Result<(), BracketFault>
+    requires short { length line.now ≤ 200 }
+    requires clean { Clean line.now }
+    ensures { Brackets line.now result }
+{
+    scan(line).map_err(|column| BracketFault::Shape {
+        column: column as u8,
+    })
+}
+
 // Whether the line is a form; else the first of the three checks that it fails.
 pub fn brackets(line: &[u8]) -> Result<(), BracketFault>
     ensures { Brackets line.now result }
@@ -108,9 +119,7 @@ pub fn brackets(line: &[u8]) -> Result<(), BracketFault>
         let column = i as u8 + 1;
         return Err(BracketFault::Byte { column });
     }
-    scan(line).map_err(|column| BracketFault::Shape {
-        column: column as u8,
-    })
+    check_shape(line)
 }
 
 #[cfg(test)]
