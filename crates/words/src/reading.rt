@@ -274,6 +274,14 @@ fn form_of(kind: Kind, v: &[i64; 8]) -> Form
     }
 }
 
+// Whether the line has the shape of a form; a bracket fault is carried on whole.
+fn shaped(line: &[u8]) -> Result<(), WordFault>
+    ensures { MatchResult result (λ _. Brackets line.now (Ok tt)) (λ f. Answers line.now (Err f)) }
+{
+    brackets(line)?;
+    Ok(())
+}
+
 // The kind of the form on the line and the place after its head, unless the head is unknown.
 fn head(line: Line) -> Option<(Kind, usize)>
     requires { Brackets line.bytes.now (Ok tt) }
@@ -305,7 +313,7 @@ pub fn read(line: &[u8]) -> Result<Form, WordFault>
     ensures once { Once line.now result }
     ensures back { ReadsBack line.now result }
 {
-    brackets(line)?;
+    shaped(line)?;
     let line = Line { bytes: line };
     let (kind, start) = head(line).ok_or(WordFault::Head)?;
     fields(line, kind, start)
