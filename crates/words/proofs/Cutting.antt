@@ -22,13 +22,13 @@ letter-inner b h = grind (arith, nat_tests)
 digit-inner : (b : ℕ) → Digit b → Inner b
 digit-inner b h = grind (arith, nat_tests)
 
-name-inner : (f : Field) → GoodField f → All Inner f.name
+pub name-inner : (f : Field) → GoodField f → All Inner f.name
 name-inner f g = All-weaker Letter Inner letter-inner f.name g.named.1
 
 sign-inner : (sg : List ℕ) → (sg ≡ []) ⊎ (sg ≡ 45 ∷ []) → All Inner sg
 sign-inner sg s = ⊎_elim (λ e. subst (All Inner) (sym e) (All-nil Inner)) (λ e. subst (All Inner) (sym e) (All-cons Inner 45 [] refl (All-nil Inner))) s
 
-number-inner : (f : Field) → GoodField f → All Inner (f.sign ++ f.digits)
+pub number-inner : (f : Field) → GoodField f → All Inner (f.sign ++ f.digits)
 number-inner f g =
     All-append Inner f.sign f.digits (sign-inner f.sign g.signed) (All-weaker Digit Inner digit-inner f.digits g.counted.1)
 
@@ -55,14 +55,14 @@ word_is rest w c t e inner stop =
 cut_word : (line : List ℕ) (n : ℕ) (w : List ℕ) (c : ℕ) (t : List ℕ) → drop n line ≡ w ++ (c ∷ t) → All Inner w → stops c ≡ true → before_first stops (take (length line - n) (drop n line)) ≡ w
 cut_word line n w c t e inner stop = word_is (take (length line - n) (drop n line)) w c t (take_rest line n ∙ e) inner stop
 
-name_cut : (line : List ℕ) (at : ℕ) (f : Field) (fs : List Field) → FieldAt line at f fs → drop (at + 2) line ≡ f.name ++ (32 ∷ ((f.sign ++ f.digits) ++ (41 ∷ rest fs)))
+pub name_cut : (line : List ℕ) (at : ℕ) (f : Field) (fs : List Field) → FieldAt line at f fs → drop (at + 2) line ≡ f.name ++ (32 ∷ ((f.sign ++ f.digits) ++ (41 ∷ rest fs)))
 name_cut line at f fs h =
     sym (drop-drop 2 at line) ∙ ap (drop 2) h.1 ∙ ap (λ l. f.name ++ (32 ∷ l)) (sym (append_assoc f.sign f.digits (41 ∷ rest fs)))
 
 past : (w : List ℕ) (c : ℕ) (t line : List ℕ) (n : ℕ) → drop n line ≡ w ++ (c ∷ t) → drop (n + (length w + 1)) line ≡ t
 past w c t line n e = sym (drop-drop (length w + 1) n line) ∙ ap (drop (length w + 1)) e ∙ drop-append-add w (c ∷ t) 1
 
-number_cut : (line : List ℕ) (at : ℕ) (f : Field) (fs : List Field) → FieldAt line at f fs → drop (at + 2 + (length f.name + 1)) line ≡ (f.sign ++ f.digits) ++ (41 ∷ rest fs)
+pub number_cut : (line : List ℕ) (at : ℕ) (f : Field) (fs : List Field) → FieldAt line at f fs → drop (at + 2 + (length f.name + 1)) line ≡ (f.sign ++ f.digits) ++ (41 ∷ rest fs)
 number_cut line at f fs h = past f.name 32 ((f.sign ++ f.digits) ++ (41 ∷ rest fs)) line (at + 2) (name_cut line at f fs h)
 
 pub rest_cut : (line : List ℕ) (at : ℕ) (f : Field) (fs : List Field) → FieldAt line at f fs → drop (at + width f) line ≡ rest fs
