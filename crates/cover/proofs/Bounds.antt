@@ -10,7 +10,7 @@ use Rattle.cover.specs.Prices.{exposure, in_range}
 use Rattle.cover.specs.Need.{added, day_counted, day_in, day_tenths, fits, position_in, position_with, price_at, tenths, tenths_of, tenths_with, total}
 use Rattle.cover.proofs.Tables.{price_small}
 
-exposure_small : (p : HourPrices) (z : ℤ) (m : ℕ) → p.short ≤ 99999 → p.long ≤ 99999 → nat_abs z ≤ m → exposure p z ≤ m * 99999
+pub exposure_small : (p : HourPrices) (z : ℤ) (m : ℕ) → p.short ≤ 99999 → p.long ≤ 99999 → nat_abs z ≤ m → exposure p z ≤ m * 99999
 exposure_small p (pos n) m s l h = mul-le n p.short m 99999 h s
 exposure_small p (negsuc n) m s l h = mul-le (n + 1) p.long m 99999 (omega (arith, h)) l
 

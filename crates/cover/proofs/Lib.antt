@@ -1,3 +1,4 @@
+pub mod Exposures
 pub mod Tables
 pub mod Totals
 pub mod Bounds

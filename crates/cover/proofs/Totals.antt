@@ -10,6 +10,10 @@ use Rattle.cover.specs.declared.hour.HourPrices.{HourPrices}
 use Rattle.cover.specs.Prices.{exposure}
 use Rattle.cover.specs.Need.{added, day_counted, day_in, day_tenths, position_in, position_with, price_at, tenths, tenths_of, tenths_with, total}
 
+-- one term more
+pub total_more : (f : ℕ → ℕ) (n : ℕ) → total f (n + 1) ≡ total f n + f n
+total_more f n = let e : n + 1 ≡ suc n = omega arith in ap (total f) e
+
 -- totals of terms that are the same below n
 pub total_below : (f g : ℕ → ℕ) (n : ℕ) → ((k : ℕ) → k < n → f k ≡ g k) → total f n ≡ total g n
 total_below f g zero h = refl
@@ -63,7 +67,7 @@ days_sum {D} counts past days f =
     ∙ total_below (λ k. g (0 + k) (get_or days k past)) (λ d. cond (day_in counts past days d) (f d) 0) (length days) (λ k _. ap (λ (d : ℕ). g d (get_or days k past)) (omega arith))
 
 -- the tenths of the same positions
-tenths_same : (ps : List HourPrices) (hours : ℕ → ℕ) (counts : ℕ → Bool) (kwh kwh' : ℕ → ℕ → ℤ) → ((d h : ℕ) → kwh d h ≡ kwh' d h) → (days : ℕ) → tenths ps hours counts kwh days ≡ tenths ps hours counts kwh' days
+pub tenths_same : (ps : List HourPrices) (hours : ℕ → ℕ) (counts : ℕ → Bool) (kwh kwh' : ℕ → ℕ → ℤ) → ((d h : ℕ) → kwh d h ≡ kwh' d h) → (days : ℕ) → tenths ps hours counts kwh days ≡ tenths ps hours counts kwh' days
 tenths_same ps hours counts kwh kwh' same days =
     total_below (day_counted ps hours counts kwh) (day_counted ps hours counts kwh') days
     (λ d _. ap (λ (t : ℕ). cond (counts d) t 0)
@@ -75,7 +79,7 @@ plus_none true z = omega (arith, ints)
 plus_none false z = omega (arith, ints)
 
 -- a trade of 0 kWh leaves every position
-untraded : (cells : List PlainCell) (start end d h : ℕ) → position_with cells start end (pos 0) d h ≡ position_in cells d h
+pub untraded : (cells : List PlainCell) (start end d h : ℕ) → position_with cells start end (pos 0) d h ≡ position_in cells d h
 untraded cells start end d h = plus_none (leb start (d * 24 + h) && ltb (d * 24 + h) end) (position_in cells d h)
 
 -- nor does it change the tenths

@@ -174,7 +174,8 @@ impl ParametricPrices {
     }
 }
 
-// What a party needs after a trade, or none where the cells are not those of its days.
+// What a party needs after a trade, or none where the cells are not those of its days. Inlined, so that where there is no trade no hour is asked for it.
+#[inline(always)]
 fn need_after<D: Counts>(
     prices: &ParametricPrices,
     days: &[D],
@@ -183,11 +184,21 @@ fn need_after<D: Counts>(
 ) -> Option<i64>
     ensures value { result ≡ (if fits (length days.now) (length cells.now) then Some (pos (need_with D.counts D.past prices.now.hours days.now cells.now trade.now.trade.start trade.now.trade.end trade.now.trade.kwh)) else None) }
     ensures least { fits (length days.now) (length cells.now) ≡ true → RoundedUp (tenths_with D.counts D.past prices.now.hours days.now cells.now trade.now.trade.start trade.now.trade.end trade.now.trade.kwh) (need_with D.counts D.past prices.now.hours days.now cells.now trade.now.trade.start trade.now.trade.end trade.now.trade.kwh) }
+    ensures bound { fits (length days.now) (length cells.now) ≡ true → need_with D.counts D.past prices.now.hours days.now cells.now trade.now.trade.start trade.now.trade.end trade.now.trade.kwh ≤ 14864956468949 }
 {
     if !fits(days.len(), cells.len()) {
         return None;
     }
     Some(halers(prices.tenths(days, cells, trade)))
+}
+
+// What it needs after a trade of nothing. Its contract is that of `need`: a public function has no proof file of its own.
+fn need_now<D: Counts>(prices: &ParametricPrices, days: &[D], cells: &[PlainCell]) -> Option<i64>
+    ensures value { result ≡ (if fits (length days.now) (length cells.now) then Some (pos (need_of D.counts D.past prices.now.hours days.now cells.now)) else None) }
+    ensures least { fits (length days.now) (length cells.now) ≡ true → RoundedUp (tenths_of D.counts D.past prices.now.hours days.now cells.now) (need_of D.counts D.past prices.now.hours days.now cells.now) }
+    ensures bound { fits (length days.now) (length cells.now) ≡ true → need_of D.counts D.past prices.now.hours days.now cells.now ≤ 7439910720149 }
+{
+    need_after(prices, days, cells, &Tradable::none())
 }
 
 // What a party needs, or none where the cells are not those of its days.
@@ -196,7 +207,7 @@ pub fn need<D: Counts>(prices: &ParametricPrices, days: &[D], cells: &[PlainCell
     ensures least { fits (length days.now) (length cells.now) ≡ true → RoundedUp (tenths_of D.counts D.past prices.now.hours days.now cells.now) (need_of D.counts D.past prices.now.hours days.now cells.now) }
     ensures bound { fits (length days.now) (length cells.now) ≡ true → need_of D.counts D.past prices.now.hours days.now cells.now ≤ 7439910720149 }
 {
-    need_after(prices, days, cells, &Tradable::none())
+    need_now(prices, days, cells)
 }
 
 // What a party needs after a trade, or none where the cells are not those of its days or the trade is of more than 499,000 kWh.

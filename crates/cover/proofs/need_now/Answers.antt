@@ -1,8 +1,8 @@
-use Rattle.std.proofs.Common.{ℕ, cond, length, pos, Some, None, ap, ◌∙◌, subst, arith}
-use Rattle.cover.specs.Need.{RoundedUp, fits, rounded_up}
+use Rattle.std.proofs.Common.{ℕ, cond, length, pos, Some, None, ap, ◌∙◌, arith}
+use Rattle.cover.specs.Need.{fits, rounded_up}
 use Rattle.cover.proofs.Bounds.{tenths_small}
 use Rattle.cover.proofs.Totals.{untraded_tenths}
-use Rattle.cover.proofs.need.Goals as goal
+use Rattle.cover.proofs.need_now.Goals as goal
 
 pub returns-clause-value : goal.returns-clause-value
 returns-clause-value g c =
