@@ -1,5 +1,5 @@
 -- One adding after another. Assumes nothing.
-use Rattle.std.proofs.Common.{◌≡◌, ℕ, ◌+◌, ◌<◌, ◌≤◌, List, [], ◌∷◌, ◌++◌, map, length, get_or, take, drop, Bor, ℤ, pos, sym, ap, ◌∙◌, subst, append_assoc, arith, length-append, length-drop}
+use Rattle.std.proofs.Common.{◌≡◌, ℕ, ◌+◌, ◌<◌, ◌≤◌, List, [], ◌∷◌, ◌++◌, map, length, get_or, take, drop, Bor, ℤ, pos, refl, sym, ap, ◌∙◌, subst, append_assoc, arith, length-append, length-drop}
 use Rattle.std.specs.List.{flat_map, enumerate_from}
 use Rattle.std.proofs.lemmas.List.{take_at, take_more, length-take-le, map_more, flat_map_more}
 use Rattle.std.proofs.lemmas.Slice.{drop-append-drop}
@@ -35,9 +35,17 @@ adds_adds {s} {t} {w} {v} {u} a b =
 adds_more : {X : Type 0} (f : X → List ℕ) (xs : List X) (x : X) {w v u : Writer} → Adds (flat_map f xs) w v → Adds (f x) v u → Adds (flat_map f (xs ++ x ∷ [])) w u
 adds_more f xs x {w} {v} {u} a b = subst (λ s. Adds s w u) (flat_map_more f [] xs x) (adds_adds a b)
 
-pub fields_more : (fs : List (Bor (List ℕ) × ℤ)) (i : ℕ) (d : Bor (List ℕ) × ℤ) {w v u : Writer} → i < length fs → Adds (fields_text (map named (take i fs))) w v → Adds (field_text (get_or fs i d).0.now (get_or fs i d).1) v u → Adds (fields_text (map named (take (i + 1) fs))) w u
+-- fields without the end of the line
+abbrev pub fields_alone : List (List ℕ × ℤ) → List ℕ
+fields_alone fs = flat_map (λ f. field_text f.0 f.1) fs
+
+pub fields_ended : (fs : List (List ℕ × ℤ)) → fields_alone fs ++ (41 ∷ 10 ∷ []) ≡ fields_text fs
+fields_ended [] = refl
+fields_ended (f ∷ fs) = append_assoc (field_text f.0 f.1) (fields_alone fs) (41 ∷ 10 ∷ []) ∙ ap (λ s. field_text f.0 f.1 ++ s) (fields_ended fs)
+
+pub fields_more : (fs : List (Bor (List ℕ) × ℤ)) (i : ℕ) (d : Bor (List ℕ) × ℤ) {w v u : Writer} → i < length fs → Adds (fields_alone (map named (take i fs))) w v → Adds (field_text (get_or fs i d).0.now (get_or fs i d).1) v u → Adds (fields_alone (map named (take (i + 1) fs))) w u
 fields_more fs i d {w} {v} {u} h a b =
-    subst (λ gs. Adds (fields_text gs) w u) (sym (map_more named fs i d h)) (adds_more (λ f. field_text f.0 f.1) (map named (take i fs)) (named (get_or fs i d)) a b)
+    subst (λ gs. Adds (fields_alone gs) w u) (sym (map_more named fs i d h)) (adds_more (λ f. field_text f.0 f.1) (map named (take i fs)) (named (get_or fs i d)) a b)
 
 numbered_more : (n : ℕ) (xs : List ℤ) (x : ℤ) → enumerate_from n (xs ++ x ∷ []) ≡ enumerate_from n xs ++ (n + length xs, x) ∷ []
 numbered_more n [] x = grind arith

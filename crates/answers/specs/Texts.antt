@@ -15,13 +15,14 @@ use Rattle.answers.specs.declared.Answer.TheVariants.{Accepted, Refused, Paid, S
 unfoldable pub field_text : List ℕ → ℤ → List ℕ
 field_text name z = 32 ∷ 40 ∷ (name ++ (32 ∷ (signed_decimal z ++ (41 ∷ []))))
 
--- one field after another
+-- the fields, the last bracket and byte 10
 abbrev pub fields_text : List (List ℕ × ℤ) → List ℕ
-fields_text fs = flat_map (λ f. field_text f.0 f.1) fs
+fields_text [] = 41 ∷ 10 ∷ []
+fields_text (f ∷ fs) = field_text f.0 f.1 ++ fields_text fs
 
 -- `(head (name number) ..)` and byte 10
 unfoldable pub form_text : List ℕ → List (List ℕ × ℤ) → List ℕ
-form_text head fs = (40 ∷ head) ++ (fields_text fs ++ (41 ∷ 10 ∷ []))
+form_text head fs = (40 ∷ head) ++ fields_text fs
 
 -- `(ok (line L))`
 abbrev pub ok_text : ℤ → List ℕ
