@@ -29,4 +29,4 @@ Answered line a = (r : Result Answer Refusal) × Entered line r × (a ≡ answer
 
 -- nothing is kept from line to line
 abbrev pub LineCall : List ℕ → ℤ → List ℕ → Option ℕ → List ℕ → Type 0
-LineCall d number line r e = calling.LineCall {J = Unit {0}} (λ _ l a _. Answered l a) tt d number line r tt e
+LineCall d number line r e = calling.LineCall {V = Unit {0}} (λ _ l a _. Answered l a) tt d number line r tt e

@@ -1,13 +1,13 @@
--- The lines of an input, and what is written to them all by what answers them (`Answered`, as in `Calling`). Assumes nothing.
+-- The lines of an input, and what is written to them all by what answers them (`Answered`, as in `Calling`), in what is kept of it (`view`). Assumes nothing.
 --
 --   Divided input lines rest               the input is these lines, each ended by byte 10, and the rest after the last of them
---   Transcript Answered j n lines output k j answers these lines, numbered from n on, by the output, and becomes k
---   Whole Answered j input output k        j answers every line of an input that has ended by the output, and becomes k
---   Ran Answered j i input output          as the input so far has come in, j answered the lines that ended by the output, and i holds what j is now and the rest
---   Runs Answered i more text k            as more came in, i became k, and text was written
+--   Transcript Answered v n lines output w what keeps v answers these lines, numbered from n on, by the output, and then keeps w
+--   Whole Answered v input output w        what keeps v answers every line of an input that has ended by the output, and then keeps w
+--   Ran view Answered v i input output     as the input so far has come in, what kept v answered the lines that ended by the output, and i holds what answers now and the rest
+--   Runs view Answered i more text k       as more came in, i became k, and text was written
 --   Filled d n e                           n bytes were written at the start of the buffer d, which became e
---   Takes Answered i d byte r k e          what the call for the next byte does, with the buffer d
---   Finishes Answered i d r k e            what the call at the end of the input does
+--   Takes view Answered i d byte r k e     what the call for the next byte does, with the buffer d
+--   Finishes view Answered i d r k e       what the call at the end of the input does
 use Rattle.std.specs.Prelude.{◌≡◌, ℕ, ◌+◌, ◌<◌, ◌≤◌, min, List, [], ◌∷◌, ◌++◌, length, take, pos, Some, None, Option, ◌≢◌, All}
 use Rattle.answers.specs.declared.Answer.{Answer}
 use Rattle.answers.specs.Writing.{laid}
@@ -38,29 +38,30 @@ pub record Filled (d : List ℕ) (n : ℕ) (e : List ℕ) : Type 0 where
   pub only : e ≡ laid d 0 (take n e)
   pub within : n ≤ 4096
 
-module _ {J : Type 0} (Answered : J → List ℕ → Answer → J → Type 0) where
-  -- the bytes written to a line, and what answers the next; from line 1,000,000,000 on nothing is written and nothing changes
-  abbrev pub Outcome : J → ℕ → List ℕ → List ℕ → J → Type 0
-  Outcome j n line text k = (n ≤ 999999999 → LineText Answered j (pos n) line text k) × (999999999 < n → (text ≡ []) × (k ≡ j))
+module _ {V : Type 0} (Answered : V → List ℕ → Answer → V → Type 0) where
+  -- the bytes written to a line, and what is kept after it; from line 1,000,000,000 on nothing is written and nothing changes
+  abbrev pub Outcome : V → ℕ → List ℕ → List ℕ → V → Type 0
+  Outcome v n line text w = (n ≤ 999999999 → LineText Answered v (pos n) line text w) × (999999999 < n → (text ≡ []) × (w ≡ v))
 
   -- the answers one after the other, each by what the lines before left
-  abbrev pub Transcript : J → ℕ → List (List ℕ) → List ℕ → J → Type 0
-  Transcript j n [] output k = (output ≡ []) × (k ≡ j)
-  Transcript j n (line ∷ lines) output k = (text : List ℕ) × (more : List ℕ) × (next : J) × Outcome j n line text next × Transcript next (n + 1) lines more k × (output ≡ text ++ more)
+  abbrev pub Transcript : V → ℕ → List (List ℕ) → List ℕ → V → Type 0
+  Transcript v n [] output w = (output ≡ []) × (w ≡ v)
+  Transcript v n (line ∷ lines) output w = (text : List ℕ) × (more : List ℕ) × (u : V) × Outcome v n line text u × Transcript u (n + 1) lines more w × (output ≡ text ++ more)
 
   -- what follows the last byte 10 is a line too, and gets no answer if it is empty
-  abbrev pub Whole : J → List ℕ → List ℕ → J → Type 0
-  Whole j input output k = (lines : List (List ℕ)) × (rest : List ℕ) × Divided input lines rest × Transcript j 1 (lines ++ rest ∷ []) output k
+  abbrev pub Whole : V → List ℕ → List ℕ → V → Type 0
+  Whole v input output w = (lines : List (List ℕ)) × (rest : List ℕ) × Divided input lines rest × Transcript v 1 (lines ++ rest ∷ []) output w
 
-  pub record Ran (j : J) (i : Input J) (input output : List ℕ) : Type 0 where
+module _ {J V : Type 0} (view : J → V) (Answered : V → List ℕ → Answer → V → Type 0) where
+  pub record Ran (v : V) (i : Input J) (input output : List ℕ) : Type 0 where
     pub lines : List (List ℕ)
     pub rest : List ℕ
     pub divided : Divided input lines rest
-    pub written : Transcript j 1 lines output i.journal
+    pub written : Transcript Answered v 1 lines output (view i.journal)
     pub holds : Holds i lines rest
 
   abbrev pub Runs : Input J → List ℕ → List ℕ → Input J → Type 0
-  Runs i more text k = (j : J) (input output : List ℕ) → Ran j i input output → Ran j k (input ++ more) (output ++ text)
+  Runs i more text k = (v : V) (input output : List ℕ) → Ran v i input output → Ran v k (input ++ more) (output ++ text)
 
   -- a byte came in: with a buffer under 4,096 bytes nothing is taken, else what answers it is at the buffer's start
   abbrev pub Takes : Input J → List ℕ → ℕ → Option ℕ → Input J → List ℕ → Type 0
@@ -70,4 +71,4 @@ module _ {J : Type 0} (Answered : J → List ℕ → Answer → J → Type 0) wh
   -- the input ended: likewise, and what answered it is handed back
   abbrev pub Finishes : Input J → List ℕ → Option ℕ → J → List ℕ → Type 0
   Finishes i d None k e = (length d < 4096) × (k ≡ i.journal) × (e ≡ d)
-  Finishes i d (Some n) k e = (4096 ≤ length d) × ((j : J) (input output : List ℕ) → Ran j i input output → Whole j input (output ++ take n e) k) × Filled d n e
+  Finishes i d (Some n) k e = (4096 ≤ length d) × ((v : V) (input output : List ℕ) → Ran v i input output → Whole Answered v input (output ++ take n e) (view k)) × Filled d n e

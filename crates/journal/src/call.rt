@@ -8,17 +8,24 @@ use answers::Answer;
 
 // What answers the lines of a journal, and may be changed by them.
 pub trait Answering {
-    // What it answers to a line that is not empty, and what it is afterwards.
-    ghost answered: { Self → List ℕ → GivenAnswer → Self → Type 0 };
+    // What is kept of it from line to line, without what no answer shows.
+    ghost kept: { Type 0 };
+
+    ghost view: { Self → kept };
+
+    // What it answers to a line that is not empty, and what it keeps afterwards.
+    ghost answered: { kept → List ℕ → GivenAnswer → kept → Type 0 };
 
     // Answers a line that is not empty.
     fn answer_to(&mut self, line: &[u8]) -> Answer
-        ensures { answered self.old line.now result self.new };
+        ensures { answered (view self.old) line.now result (view self.new) };
 
     // The answer to a line, written at the buffer's start, and its length; an empty line gets none. None, with nothing written or
     // changed, where the buffer is under 4,096 bytes or the line's number is outside 1 to 999,999,999.
     final fn answer_line(&mut self, out: &mut [u8], number: i64, line: &[u8]) -> Option<usize>
-        ensures { LineCall answered self.old out.old number line.now result self.new out.new }
+        ensures call { LineCall answered (view self.old) out.old number line.now result (view self.new) out.new }
+        ensures refused { (Answerable (length out.old) number → ⊥) → self.new ≡ self.old }
+        ensures empty { length line.now ≡ 0 → self.new ≡ self.old }
     {
         if !answers::answerable(out.len(), number) {
             return None;
@@ -30,5 +37,5 @@ pub trait Answering {
     }
 
     // A line of over 200 bytes is answered as its first 201 are.
-    ghost cut: { (j k : Self) (line : List ℕ) (a : GivenAnswer) → 200 < length line → answered j (take 201 line) a k → answered j line a k };
+    ghost cut: { (v w : kept) (line : List ℕ) (a : GivenAnswer) → 200 < length line → answered v (take 201 line) a w → answered v line a w };
 }

@@ -21,7 +21,8 @@ pub struct Input<J> {
 impl<J: Answering> Input<J> {
     // Before the first byte: line 1 begins.
     pub fn new(journal: J) -> Input<J>
-        ensures { Ran J.answered journal result [] [] }
+        ensures ran { Ran J.view J.answered (J.view journal) result [] [] }
+        ensures journal { result.journal ≡ journal }
     {
         Input {
             journal,
@@ -33,7 +34,7 @@ impl<J: Answering> Input<J> {
     // Takes the next byte of the input. What is answered if it ends a line is then at the buffer's start, and its length is returned;
     // None, with nothing taken, where the buffer is under 4,096 bytes.
     pub fn take_byte(&mut self, buffer: &mut [u8], byte: u8) -> Option<usize>
-        ensures { Takes J.answered self.old buffer.old byte result self.new buffer.new }
+        ensures { Takes J.view J.answered self.old buffer.old byte result self.new buffer.new }
     {
         if buffer.len() < ANSWER_BYTES {
             return None;
@@ -49,7 +50,7 @@ impl<J: Answering> Input<J> {
     // The input has ended: what answers the bytes after the last end of a line is at the buffer's start, and its length is returned, with the
     // journal as it is then; None, with the journal as it was, where the buffer is under 4,096 bytes.
     pub fn finish(self, buffer: &mut [u8]) -> (Option<usize>, J)
-        ensures { Finishes J.answered self buffer.old result.0 result.1 buffer.new }
+        ensures { Finishes J.view J.answered self buffer.old result.0 result.1 buffer.new }
     {
         if buffer.len() < ANSWER_BYTES {
             return (None, self.journal);
@@ -62,8 +63,8 @@ impl<J: Answering> Input<J> {
     // Answers the line as it stands, and gives the answer's length.
     fn answer(&mut self, out: &mut [u8]) -> usize
         requires { 4096 ≤ length out.old }
-        ensures outcome { (lines : List (List ℕ)) (rest : List ℕ) → Holds self.old lines rest → Outcome J.answered self.old.journal (length lines + 1) rest (take result out.new) self.new.journal }
-        ensures whole { (j : J) (input output : List ℕ) → Ran J.answered j self.old input output → Whole J.answered j input (output ++ take result out.new) self.new.journal }
+        ensures outcome { (lines : List (List ℕ)) (rest : List ℕ) → Holds self.old lines rest → Outcome J.answered (J.view self.old.journal) (length lines + 1) rest (take result out.new) (J.view self.new.journal) }
+        ensures whole { (v : J.kept) (input output : List ℕ) → Ran J.view J.answered v self.old input output → Whole J.answered v input (output ++ take result out.new) (J.view self.new.journal) }
         ensures line { self.new.line ≡ self.old.line }
         ensures number { self.new.number ≡ self.old.number }
         ensures filled { Filled out.old result out.new }
@@ -87,7 +88,7 @@ impl<J: Answering> Input<J> {
     // Byte 10 came: the line is answered, and the next begins.
     fn end_line(&mut self, out: &mut [u8]) -> usize
         requires { 4096 ≤ length out.old }
-        ensures runs { Runs J.answered self.old (10 ∷ []) (take result out.new) self.new }
+        ensures runs { Runs J.view J.answered self.old (10 ∷ []) (take result out.new) self.new }
         ensures filled { Filled out.old result out.new }
     {
         let len = self.answer(out);
@@ -98,7 +99,7 @@ impl<J: Answering> Input<J> {
     // Another byte came: it is one more of the line.
     fn go_on(&mut self, byte: u8)
         requires { byte ≢ 10 }
-        ensures { Runs J.answered self.old (byte ∷ []) [] self.new }
+        ensures { Runs J.view J.answered self.old (byte ∷ []) [] self.new }
     {
         if !self.line.is_full() {
             self.line.push(byte);

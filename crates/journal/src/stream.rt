@@ -18,7 +18,7 @@ fn feed_byte<J: Answering, W: Write>(
     room: &mut [u8; ANSWER_BYTES],
     out: &mut W,
 ) -> io::Result<()>
-    ensures { OnOk result (Feeds J.answered input.old (byte ∷ []) input.new (W.contents out.old) (W.contents out.new)) }
+    ensures { OnOk result (Feeds J.view J.answered input.old (byte ∷ []) input.new (W.contents out.old) (W.contents out.new)) }
 {
     match input.take_byte(room, byte) {
         Some(len) => out.write_all(&room[..len]),
@@ -34,7 +34,7 @@ fn feed<J: Answering, W: Write>(
     room: &mut [u8; ANSWER_BYTES],
     out: &mut W,
 ) -> io::Result<()>
-    ensures { OnOk result (Feeds J.answered input.old block.now input.new (W.contents out.old) (W.contents out.new)) }
+    ensures { OnOk result (Feeds J.view J.answered input.old block.now input.new (W.contents out.old) (W.contents out.new)) }
 {
     for byte in block {
         feed_byte(input, *byte, room, out)?;
@@ -48,7 +48,7 @@ fn end<J: Answering + Drop, W: Write>(
     room: &mut [u8; ANSWER_BYTES],
     out: &mut W,
 ) -> io::Result<J>
-    ensures { IfOk result (Ends J.answered input (W.contents out.old) (W.contents out.new)) }
+    ensures { IfOk result (Ends J.view J.answered input (W.contents out.old) (W.contents out.new)) }
 {
     let (Some(len), journal) = input.finish(room) else {
         unreachable!();
@@ -57,14 +57,14 @@ fn end<J: Answering + Drop, W: Write>(
     Ok(journal)
 }
 
-// Reads a source to its end, writes the answers to its lines, and hands back what answered them.
+// Reads a source to its end, block after block. Its contract is that of `answer_input`.
 #[tactic(auto, using(crate::proofs::Streaming::going_more))]
-pub fn answer_input<J: Answering + Drop, R: Read, W: Write>(
+fn answer_blocks<J: Answering + Drop, R: Read, W: Write>(
     journal: J,
     source: &mut R,
     out: &mut W,
 ) -> io::Result<J>
-    ensures { IfOk result (Answers J.answered journal (R.remaining source.old) (R.remaining source.new) (W.contents out.old) (W.contents out.new)) }
+    ensures { IfOk result (λ j. Answers J.answered (J.view journal) (R.remaining source.old) (R.remaining source.new) (W.contents out.old) (W.contents out.new) (J.view j)) }
 {
     let mut input = Input::new(journal);
     let mut block = [0u8; BLOCK];
@@ -78,4 +78,15 @@ pub fn answer_input<J: Answering + Drop, R: Read, W: Write>(
     }
     // A loop has an end, here after 2^64 - 1 reads: a source that still gives bytes then counts as one that fails.
     Err(io::Error::from(ErrorKind::TimedOut))
+}
+
+// Reads a source to its end, writes the answers to its lines, and hands back what answered them.
+pub fn answer_input<J: Answering + Drop, R: Read, W: Write>(
+    journal: J,
+    source: &mut R,
+    out: &mut W,
+) -> io::Result<J>
+    ensures { IfOk result (λ j. Answers J.answered (J.view journal) (R.remaining source.old) (R.remaining source.new) (W.contents out.old) (W.contents out.new) (J.view j)) }
+{
+    answer_blocks(journal, source, out)
 }

@@ -12,6 +12,10 @@ use answers::Answer;
 pub struct Unopened;
 
 impl Answering for Unopened {
+    ghost kept = { Unit {0} };
+
+    ghost view = { λ _. tt };
+
     ghost answered = { λ _ line a _. Answered line a };
 
     ghost cut = { λ _ _ line a. answered_cut line a };

@@ -1,7 +1,7 @@
 // The line call: one line in, its answer out (docs/RULES.md, "The line call").
 ghost use Rattle.std.specs.Prelude.{◌≡◌};
 ghost use Rattle.book.specs.Books.{held};
-ghost use Rattle.keeping.specs.View.{rules_of, view};
+ghost use Rattle.keeping.specs.View.{View, rules_of, view};
 ghost use Rattle.keeping.specs.Entered.{after_in, answer_in, book_after, book_answer, replied, stated};
 ghost use Rattle.keeping.specs.Answered.{Answered, Entered, LineCall};
 ghost use Rattle.keeping.specs.Cutting.{answered_cut};
@@ -103,10 +103,16 @@ impl Journal<'_> {
 }
 
 impl Answering for Journal<'_> {
-    ghost answered = { λ j line a k. Answered (view j) line a (view k) };
+    ghost kept = { View };
 
-    ghost cut = { λ j k line a. answered_cut (view j) (view k) line a };
+    ghost view = { view };
 
+    ghost answered = { Answered };
+
+    ghost cut = { answered_cut };
+
+    // Not inlined: its room on the stack is cleared at its head, which a line without bytes need not wait for.
+    #[inline(never)]
     fn answer_to(&mut self, line: &[u8]) -> Answer {
         self.enter(line)
             .unwrap_or_else(|refusal| journal::refused(refusal.told()))

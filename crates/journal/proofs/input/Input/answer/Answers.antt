@@ -6,8 +6,8 @@ use Rattle.journal.proofs.input.Input.answer.Goals as goal
 pub returns-clause-outcome : goal.returns-clause-outcome
 returns-clause-outcome g c =
     let A = g.J.Answering.answered in
-    let j = c.args.self.now.journal in
-    let k = c.answer_line.new.self in
+    let j = g.J.Answering.view c.args.self.now.journal in
+    let k = g.J.Answering.view c.answer_line.new.self in
     let d = c.args.out.now in
     let e = c.answer_line.new.out in
     let m = c.args.self.now.number in
@@ -16,4 +16,4 @@ returns-clause-outcome g c =
 
 pub returns-clause-whole : goal.returns-clause-whole
 returns-clause-whole g c =
-    λ j input output r. ran_whole g.J.Answering.answered j c.answer_line.new.self c.args.self.now (take c.unwrap_or.result c.answer_line.new.out) input output (returns-clause-outcome g c) r
+    λ j input output r. ran_whole g.J.Answering.view g.J.Answering.answered j (g.J.Answering.view c.answer_line.new.self) c.args.self.now (take c.unwrap_or.result c.answer_line.new.out) input output (returns-clause-outcome g c) r
