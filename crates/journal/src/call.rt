@@ -33,9 +33,24 @@ pub trait Answering {
         if line.is_empty() {
             return Some(0);
         }
-        answers::write(out, number, &self.answer_to(line))
+        write_answer(self, out, number, line)
     }
 
     // A line of over 200 bytes is answered as its first 201 are.
     ghost cut: { (v w : kept) (line : List ℕ) (a : GivenAnswer) → 200 < length line → answered v (take 201 line) a w → answered v line a w };
+}
+
+// Answers a line that is not empty, and writes what it was answered. Not inlined: room for an answer is cleared at the head, which an empty line need not wait for.
+#[inline(never)]
+fn write_answer<J: Answering>(
+    answering: &mut J,
+    out: &mut [u8],
+    number: i64,
+    line: &[u8],
+) -> Option<usize>
+    requires answerable { Answerable (length out.old) number }
+    requires some { 0 < length line.now }
+    ensures { LineCall J.answered (J.view answering.old) out.old number line.now result (J.view answering.new) out.new }
+{
+    answers::write(out, number, &answering.answer_to(line))
 }

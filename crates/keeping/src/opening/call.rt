@@ -111,8 +111,6 @@ impl Answering for Journal<'_> {
 
     ghost cut = { answered_cut };
 
-    // Not inlined: its room on the stack is cleared at its head, which a line without bytes need not wait for.
-    #[inline(never)]
     fn answer_to(&mut self, line: &[u8]) -> Answer {
         self.enter(line)
             .unwrap_or_else(|refusal| journal::refused(refusal.told()))
