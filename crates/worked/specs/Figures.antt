@@ -2,13 +2,16 @@
 --
 --   worked_cells w   the cells of a worked hour
 --   Figures          every worked figure
-use Rattle.std.specs.Prelude.{◌≡◌, ℕ, ◌<◌, List, [], ◌∷◌, ℤ, pos, ◌-ℤ◌, neg_ℤ, Some, slice_index_or}
+use Rattle.std.specs.Prelude.{◌≡◌, ℕ, ◌<◌, ◌≤◌, List, [], ◌∷◌, ℤ, pos, ◌-ℤ◌, neg_ℤ, Some, slice_index_or, unsigned_abs}
 use Rattle.units.specs.Rounding.{Nearest, nearest, rounded}
 use Rattle.hourly.specs.Cells.{CellFigures}
 use Rattle.hourly.specs.Records.{HourFigures, delivered, no_deliveries}
+use Rattle.pricing.specs.declared.prices.Prices.{Prices}
+use Rattle.pricing.specs.Prices.{Bounded}
 use Rattle.pricing.specs.Rules.{both, ladder, regulating}
 use Rattle.sharing.specs.Rules.{largest_remainder, running}
-use Rattle.sheet.specs.Evaluation.{HourFacts, amounts, first_amounts, operator_part, remainder}
+use Rattle.sheet.specs.Bounds.{RowFigures, RowWithin}
+use Rattle.sheet.specs.Evaluation.{HourFacts, amounts, first_amount, first_amounts, operator_part, remainder}
 use Rattle.sheet.specs.Sheets.{hour_facts}
 use Rattle.worked.specs.declared.hours.WorkedHour.{WorkedHour}
 use Rattle.worked.specs.declared.hours.WorkedHour.TheVariants.{Traded, Corrected, Unmetered}
@@ -62,6 +65,10 @@ Hours =
 abbrev pub Rounds : Type 0
 Rounds = (t : ℤ) (d : ℕ) → 0 < d → Nearest t d (nearest t d)
 
+-- how large a first amount can get: at most 30,000,000,000 halers either way, at any prices in range and on any row within a cell's bounds
+abbrev pub FirstsSmall : Type 0
+FirstsSmall = (p : Prices) (r : RowFigures) → Bounded p → RowWithin r → unsigned_abs (first_amount p r) ≤ 30000000000
+
 -- every worked figure
 pub record Figures : Type 0 where
   pub roundings : Roundings
@@ -69,3 +76,4 @@ pub record Figures : Type 0 where
   pub pricings : Pricings
   pub hours : Hours
   pub rounds : Rounds
+  pub firsts : FirstsSmall
