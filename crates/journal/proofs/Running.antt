@@ -10,7 +10,7 @@ use Rattle.answers.specs.declared.Answer.{Answer}
 use Rattle.answers.specs.Writing.{laid}
 use Rattle.journal.specs.declared.input.Input.{Input}
 use Rattle.journal.specs.Calling.{LineText, LineCall}
-use Rattle.journal.specs.Lines.{Unbroken, ended, Divided, Holds, Filled, Outcome, Transcript, Whole, Ran, Runs, Takes}
+use Rattle.journal.specs.Lines.{Unbroken, ended, Divided, Holds, Outcome, Transcript, Whole, Ran, Runs, Takes}
 
 -- Lines
 

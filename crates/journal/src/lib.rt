@@ -3,14 +3,17 @@
 
 mod call;
 mod input;
+mod kept;
 mod refusal;
 mod stream;
+mod subject;
 #[cfg(test)]
 mod tests;
 mod unopened;
 
 pub use call::Answering;
 pub use input::Input;
+pub use kept::Keeping;
 pub use refusal::{Refusal, refused};
-pub use stream::answer_input;
+pub use stream::{answer_input, answer_input_kept};
 pub use unopened::{Unopened, answer_line};

@@ -1,5 +1,9 @@
 // The line call at the edges of what it answers, and an input from byte to byte.
-use super::{Answering, Input, Unopened, answer_input, answer_line};
+ghost use Rattle.std.specs.Prelude.{◌≡◌};
+ghost use Rattle.answers.specs.declared.Answer.TheVariants.{Accepted};
+
+use super::{Answering, Input, Keeping, Unopened, answer_input, answer_input_kept, answer_line};
+use answers::Answer;
 use std::io;
 use std::io::{ErrorKind, Read};
 use std::test::Fail;
@@ -101,5 +105,78 @@ fn streams(rt: HostRuntime) -> Result<(), Fail> {
     let mut source = Broken { left: b"()\n(()" };
     assert!(rt; answer_input(Unopened, &mut source, &mut out).is_err());
     assert!(rt; out.as_slice() == b"(no (line 1) (layer 1) (number 22) (place 2))\n".as_slice());
+    Ok(())
+}
+
+// What accepts every line, and says of itself what it answers: nothing is left out of it.
+#[derive(Drop)]
+struct Counting {
+    lines: u8,
+}
+
+impl Answering for Counting {
+    ghost answered = { λ _ _ a _. a ≡ Accepted };
+
+    ghost cut = { λ _ _ _ _ _ h. h };
+
+    fn answer_to(&mut self, _line: &[u8]) -> Answer {
+        self.lines = self.lines.saturating_add(1);
+        Answer::Accepted
+    }
+}
+
+#[test]
+fn of_itself(rt: HostRuntime) -> Result<(), Fail> {
+    let mut out = [7u8; 4096];
+    let mut counting = Counting { lines: 0 };
+    assert_eq!(rt; counting.answer_line(&mut out, 0, b"a"), None);
+    assert_eq!(rt; counting.answer_line(&mut out, 1, b""), Some(0));
+    assert_eq!(rt; counting.lines, 0);
+    assert!(rt; matches!(counting.answer_to(b"a"), Answer::Accepted));
+    let n = counting.answer_line(&mut out, 7, b"a");
+    assert!(rt; wrote(&out, n, b"(ok (line 7))\n"));
+    let mut input = Input::new(counting);
+    assert_eq!(rt; fed(&mut input, &mut out, b"a\n\nb"), 14);
+    let (n, counting) = input.finish(&mut out);
+    assert!(rt; wrote(&out, n, b"(ok (line 3))\n"));
+    assert_eq!(rt; counting.lines, 4);
+    let mut answers = Vec::new(rt.alloc());
+    let counting = answer_input(counting, &mut &b"a\n\nb"[..], &mut answers)?;
+    assert!(rt; answers.as_slice() == b"(ok (line 1))\n(ok (line 3))\n".as_slice());
+    assert_eq!(rt; counting.lines, 6);
+    Ok(())
+}
+
+#[test]
+fn of_what_is_kept(rt: HostRuntime) -> Result<(), Fail> {
+    let told = b"(no (line 1) (layer 1) (number 22) (place 2))\n";
+    let mut out = [7u8; 4096];
+    assert_eq!(rt;
+        Keeping::answer_line_kept(&mut Unopened, &mut out, 0, b"()"),
+        None
+    );
+    assert_eq!(rt;
+        Keeping::answer_line_kept(&mut Unopened, &mut out, 1, b""),
+        Some(0)
+    );
+    assert!(rt;
+        matches!(
+            Unopened.answer_to_kept(b"()"),
+            Answer::Refused { layer: 1, .. }
+        )
+    );
+    assert!(rt; matches!(Unopened.answer_to(b"()"), Answer::Refused { layer: 1, .. }));
+    let n = Keeping::answer_line_kept(&mut Unopened, &mut out, 1, b"()");
+    assert!(rt; wrote(&out, n, told));
+    let mut short = [7u8; 4095];
+    let mut input = Input::new_kept(Unopened);
+    assert_eq!(rt; input.take_byte_kept(&mut short, b'('), None);
+    assert_eq!(rt; input.take_byte_kept(&mut out, b'('), Some(0));
+    assert_eq!(rt; input.take_byte_kept(&mut out, b')'), Some(0));
+    let (n, _) = input.finish_kept(&mut out);
+    assert!(rt; wrote(&out, n, told));
+    let mut answers = Vec::new(rt.alloc());
+    answer_input_kept(Unopened, &mut &b"()"[..], &mut answers)?;
+    assert!(rt; answers.as_slice() == told.as_slice());
     Ok(())
 }

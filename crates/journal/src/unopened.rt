@@ -4,14 +4,14 @@ ghost use Rattle.journal.specs.Told.{refused_as};
 ghost use Rattle.journal.specs.Answered.{Entered, Answered, LineCall};
 ghost use Rattle.journal.specs.Cutting.{answered_cut};
 
-use crate::call::Answering;
+use crate::kept::Keeping;
 use crate::refusal::{Refusal, refused};
 use answers::Answer;
 
 #[derive(Clone, Copy)]
 pub struct Unopened;
 
-impl Answering for Unopened {
+impl Keeping for Unopened {
     ghost kept = { Unit {0} };
 
     ghost view = { λ _. tt };
@@ -20,7 +20,7 @@ impl Answering for Unopened {
 
     ghost cut = { λ _ _ line a. answered_cut line a };
 
-    fn answer_to(&mut self, line: &[u8]) -> Answer {
+    fn answer_to_kept(&mut self, line: &[u8]) -> Answer {
         enter(line).unwrap_or_else(|refusal| refused(refusal.told()))
     }
 }
@@ -37,5 +37,5 @@ fn enter(line: &[u8]) -> Result<Answer, Refusal>
 pub fn answer_line(out: &mut [u8], number: i64, line: &[u8]) -> Option<usize>
     ensures { LineCall out.old number line.now result out.new }
 {
-    Unopened.answer_line(out, number, line)
+    Unopened.answer_line_kept(out, number, line)
 }

@@ -9,6 +9,7 @@
 use Rattle.std.specs.Prelude.{ℕ, List, Option}
 use Rattle.journal.specs.declared.input.Input.{Input}
 use Rattle.journal.specs.Lines as told
+use Rattle.journal.proofs.Seen.{ran_seen, whole_seen}
 use Rattle.keeping.specs.declared.keeper.Journal.{Journal}
 use Rattle.keeping.specs.View.{View, view}
 use Rattle.keeping.specs.Answered.{Answered}
@@ -36,3 +37,10 @@ Takes = told.Takes view Answered
 
 abbrev pub Finishes : Input Journal → List ℕ → Option ℕ → Journal → List ℕ → Type 0
 Finishes = told.Finishes view Answered
+
+-- what `journal` promises of the journal itself is so of what it keeps
+pub ran_kept : (j : Journal) (i : Input Journal) (input output : List ℕ) → told.Ran (λ j. j) (λ j line a k. Answered (view j) line a (view k)) j i input output → Ran (view j) i input output
+ran_kept = ran_seen view Answered
+
+pub whole_kept : (j k : Journal) (input output : List ℕ) → told.Whole (λ j line a k. Answered (view j) line a (view k)) j input output k → Whole (view j) input output (view k)
+whole_kept = whole_seen view Answered

@@ -7,6 +7,6 @@ use std::io::{BufWriter, Write};
 
 fn main(rt: HostRuntime) -> io::Result<()> {
     let mut out = BufWriter::new(rt.alloc(), rt.stdout())?;
-    journal::answer_input(Unopened, &mut rt.stdin(), &mut out)?;
+    journal::answer_input_kept(Unopened, &mut rt.stdin(), &mut out)?;
     out.flush()
 }

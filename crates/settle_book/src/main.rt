@@ -28,6 +28,6 @@ fn main(rt: HostRuntime) -> io::Result<()> {
     let Ok(journal) = Journal::start(pages, PARTIES, DAYS) else {
         unreachable()
     };
-    journal::answer_input(journal, &mut rt.stdin(), &mut out)?;
+    journal::answer_input_kept(journal, &mut rt.stdin(), &mut out)?;
     out.flush()
 }

@@ -16,7 +16,7 @@ use book::statement::Statement;
 use entries::entry::Sizes;
 use entries::refusal::Refusal as BookRefusal;
 use entries::reply::{Receipt, Reply};
-use journal::Answering;
+use journal::Keeping;
 use rules::choice::{ChosenPricing, ChosenSharing};
 use std::mem;
 use words::Form;
@@ -98,11 +98,11 @@ impl Journal<'_> {
     pub fn answer_line(&mut self, out: &mut [u8], number: i64, line: &[u8]) -> Option<usize>
         ensures { LineCall (view self.old) out.old number line.now result (view self.new) out.new }
     {
-        Answering::answer_line(self, out, number, line)
+        self.answer_line_kept(out, number, line)
     }
 }
 
-impl Answering for Journal<'_> {
+impl Keeping for Journal<'_> {
     ghost kept = { View };
 
     ghost view = { view };
@@ -111,7 +111,7 @@ impl Answering for Journal<'_> {
 
     ghost cut = { answered_cut };
 
-    fn answer_to(&mut self, line: &[u8]) -> Answer {
+    fn answer_to_kept(&mut self, line: &[u8]) -> Answer {
         self.enter(line)
             .unwrap_or_else(|refusal| journal::refused(refusal.told()))
     }

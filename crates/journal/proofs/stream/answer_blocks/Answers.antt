@@ -5,4 +5,4 @@ use Rattle.journal.proofs.stream.answer_blocks.Goals as goal
 pub returns-then-len-eq0 : goal.returns-then-len-eq0
 returns-then-len-eq0 g c =
     let room : 0 < length c.read.new.buf = search rules in
-    going_ends g.J.Answering.view g.J.Answering.answered (g.J.Answering.view c.args.journal) c.loop.input c.read.new.buf c.in_ok-len.len _ _ _ _ _ _ c.end.result c.loop.invariant c.in_ok-len.ensures.bytes c.if-len-eq0.true room c.end.ensures
+    going_ends g.S.Subject.view g.S.Subject.answered (g.S.Subject.view c.args.journal) c.loop.input c.read.new.buf c.in_ok-len.len _ _ _ _ _ _ c.end.result c.loop.invariant c.in_ok-len.ensures.bytes c.if-len-eq0.true room c.end.ensures
